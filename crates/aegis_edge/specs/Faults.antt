@@ -1,0 +1,6 @@
+-- Counts of faults. A count is a number below 2 ^ 64; at the greatest one it stands still.
+use Rattle.std.specs.Prelude.{ℕ, ◌+◌, ◌-◌, ◌^◌, ◌≤◌, min}
+
+-- a count rose by one at least, or stands at its end
+abbrev pub Rose : ℕ → ℕ → Type 0
+Rose before now = min (before + 1) (2 ^ 64 - 1) ≤ now

@@ -1,0 +1,9 @@
+//! The edge of the trusted chip: where files come from and where released bytes and reports go.
+//! Code above is generic over `Folder` and `Sink`, and is proved once for folders and sinks in memory and of the host.
+#![tactic(auto)]
+
+mod folder;
+mod sink;
+
+pub use folder::{Folder, FolderError};
+pub use sink::{Sink, SinkFault};
