@@ -1,0 +1,16 @@
+//! The core of the processor: its registers, the memory that it runs on, and one step of it.
+//! A step is generic over the memory, and is proved once for each memory that keeps the contract of `Memory`.
+#![tactic(auto)]
+
+mod decode;
+mod flat_memory;
+mod memory;
+mod port;
+mod processor;
+mod stepping;
+
+pub use flat_memory::{CODE_START, FlatMemory, MAX_CODE_WORDS};
+pub use memory::{Memory, Stop, Why};
+pub use port::Port;
+pub use processor::Core;
+pub use stepping::{StepEnd, step};

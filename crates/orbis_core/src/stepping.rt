@@ -1,0 +1,70 @@
+//! One step of the core: one row of the instruction table.
+ghost use Rattle.std.specs.Prelude.{◌≡◌, ◌≤◌, length};
+ghost use Rattle.orbis_core.specs.Instruction.{IsInRange};
+ghost use Rattle.orbis_core.specs.Processor.{IsProcessor};
+ghost use Rattle.orbis_core.specs.Rows.{Steps, LeavesTwoFewer, core_after, end_of};
+
+use crate::decode::{self, EXIT, Instr, RELEASE};
+use crate::memory::{Memory, Stop, Why};
+use crate::port::Port;
+use crate::processor::Core;
+
+/// How a step ended.
+#[derive(Clone, Copy, Debug, PartialEq, Eq)]
+pub enum StepEnd {
+    /// The instruction was done, and the next one follows.
+    Next,
+    /// The instruction released this byte, and the next one follows.
+    Released(u8),
+    /// The program ended.
+    Exit,
+    /// The memory stopped an access, or the word is no instruction; the core and the port stay as they were.
+    Stopped(Stop),
+}
+
+/// Fetches the word at the program counter and does its row of the instruction table.
+/// The program counter moves on by 4, modulo 2 to the 32nd, behind each instruction that is done, exit included.
+pub fn step<M: Memory>(core: &mut Core, mem: &mut M, port: &mut Port) -> StepEnd
+    requires left { M.has_left mem.old 2 }
+    requires port { port.old.next ≤ length port.old.input.now }
+
+    ensures row { Steps M.accesses
+        (record { core = core.old; memory = mem.old; port = port.old }) result
+        (record { core = core.new; memory = mem.new; port = port.new }) }
+    ensures left { LeavesTwoFewer M.has_left mem.old result mem.new }
+    ensures whole { IsProcessor core.old }
+    ensures kept { IsProcessor core.new }
+{
+    let word = match mem.fetch(core.pc) {
+        Ok(word) => word,
+        Err(stop) => return StepEnd::Stopped(stop),
+    };
+    match decode::decode(word) {
+        Some(instruction) => perform(core, instruction),
+        None => StepEnd::Stopped(Stop::Refused(Why::Illegal)),
+    }
+}
+
+/// Does the row of an instruction.
+fn perform(core: &mut Core, instruction: Instr) -> StepEnd
+    requires { IsInRange instruction }
+    ensures ends { result ≡ end_of instruction core.old }
+    ensures core { core.new ≡ core_after instruction core.old }
+{
+    let end = match instruction {
+        Instr::Movhi { d, k } => {
+            core.set_register(u32::from(d), u32::from(k) << 16);
+            StepEnd::Next
+        }
+        Instr::Ori { d, a, k } => {
+            let value = core.register(u32::from(a)) | u32::from(k);
+            core.set_register(u32::from(d), value);
+            StepEnd::Next
+        }
+        Instr::Cust1 { f: RELEASE } => StepEnd::Released((core.register(3) & 0xff) as u8),
+        Instr::Cust1 { f: EXIT } => StepEnd::Exit,
+        Instr::Cust1 { f: _ } => unreachable!(),
+    };
+    core.advance();
+    end
+}
