@@ -9,13 +9,28 @@ pub(crate) const RELEASE: u8 = 6;
 
 /// An instruction, by its row of the instruction table, with the fields of its word.
 #[derive(Clone, Copy, Debug, PartialEq, Eq)]
-pub(crate) enum Instr {
-    /// `l.movhi D,K`: D = K * 65536.
-    Movhi { d: u8, k: u16 },
-    /// `l.ori D,A,K`: D = A | K.
-    Ori { d: u8, a: u8, k: u16 },
-    /// `l.cust1 f`: the secure instruction f.
-    Cust1 { f: u8 },
+pub enum Instr {
+    /// `l.movhi D,K`: the constant K goes into the upper half of register D, and zeros into the lower half.
+    Movhi {
+        /// The register that is written, below 32.
+        d: u8,
+        /// The constant.
+        k: u16,
+    },
+    /// `l.ori D,A,K`: register D becomes the bitwise or of register A and the constant K.
+    Ori {
+        /// The register that is written, below 32.
+        d: u8,
+        /// The register that is read, below 32.
+        a: u8,
+        /// The constant.
+        k: u16,
+    },
+    /// `l.cust1 f`: a secure instruction.
+    Cust1 {
+        /// Which one: 1 ends the program, and 6 releases the low byte of register 3.
+        f: u8,
+    },
 }
 
 /// The instruction that a word is, if it is one.

@@ -9,6 +9,7 @@ mod port;
 mod processor;
 mod stepping;
 
+pub use decode::Instr;
 pub use flat_memory::{CODE_START, FlatMemory, MAX_CODE_WORDS};
 pub use memory::{Memory, Stop, Why};
 pub use port::Port;

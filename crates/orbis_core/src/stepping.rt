@@ -32,6 +32,9 @@ pub fn step<M: Memory>(core: &mut Core, mem: &mut M, port: &mut Port) -> StepEnd
         (record { core = core.old; memory = mem.old; port = port.old }) result
         (record { core = core.new; memory = mem.new; port = port.new }) }
     ensures left { LeavesTwoFewer M.has_left mem.old result mem.new }
+    ensures port { port.new.next ≤ length port.new.input.now }
+
+    // The registers are 32, and register 0 reads zero, before the step and behind it.
     ensures whole { IsProcessor core.old }
     ensures kept { IsProcessor core.new }
 {
