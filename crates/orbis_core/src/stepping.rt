@@ -71,3 +71,76 @@ fn perform(core: &mut Core, instruction: Instr) -> StepEnd
     core.advance();
     end
 }
+
+#[cfg(test)]
+mod tests {
+    use crate::{CODE_START, Core, FlatMemory, Port, StepEnd, Stop, Why, step};
+    use std::test::Fail;
+
+    const REFUSED_RIGHTS: StepEnd = StepEnd::Stopped(Stop::Refused(Why::Rights));
+
+    const REFUSED_MISALIGNED: StepEnd = StepEnd::Stopped(Stop::Refused(Why::Misaligned));
+
+    const REFUSED_ILLEGAL: StepEnd = StepEnd::Stopped(Stop::Refused(Why::Illegal));
+
+    #[test]
+    fn does_each_row(rt: HostRuntime) -> Result<(), Fail> {
+        let code = [0x1860_0001, 0xa863_0048, 0x7000_0006, 0x7000_0001];
+        let mut mem = FlatMemory::of_code(rt.alloc(), &code)?;
+        let mut core = Core::new(CODE_START);
+        let mut port = Port {
+            input: b"",
+            next: 0,
+        };
+        assert_eq!(rt; step(&mut core, &mut mem, &mut port), StepEnd::Next);
+        assert_eq!(rt; core.register(3), 65_536);
+        assert_eq!(rt; step(&mut core, &mut mem, &mut port), StepEnd::Next);
+        assert_eq!(rt; core.register(3), 65_608);
+        assert_eq!(rt; step(&mut core, &mut mem, &mut port), StepEnd::Released(72));
+        assert_eq!(rt; step(&mut core, &mut mem, &mut port), StepEnd::Exit);
+        assert_eq!(rt; core.pc, CODE_START + 16);
+        assert_eq!(rt; step(&mut core, &mut mem, &mut port), REFUSED_RIGHTS);
+        Ok(())
+    }
+
+    #[test]
+    fn refuses_words_and_addresses(rt: HostRuntime) -> Result<(), Fail> {
+        let table = [
+            (0x0000_0000, CODE_START, REFUSED_ILLEGAL),
+            (0x1861_0001, CODE_START, REFUSED_ILLEGAL),
+            (0x7000_0002, CODE_START, REFUSED_ILLEGAL),
+            (0x7000_0026, CODE_START, REFUSED_ILLEGAL),
+            (0x1860_0001, CODE_START - 4, REFUSED_RIGHTS),
+            (0x1860_0001, CODE_START + 4, REFUSED_RIGHTS),
+            (0x1860_0001, CODE_START + 2, REFUSED_MISALIGNED),
+        ];
+        for (word, pc, end) in table {
+            let mut mem = FlatMemory::of_code(rt.alloc(), &[word])?;
+            let mut core = Core::new(pc);
+            let mut port = Port {
+                input: b"",
+                next: 0,
+            };
+            assert_eq!(rt;
+                step(&mut core, &mut mem, &mut port),
+                end,
+                "{word:08x} at {pc:08x}"
+            );
+            assert_eq!(rt; core.pc, pc);
+        }
+        Ok(())
+    }
+
+    #[test]
+    fn drops_writes_of_register_0(rt: HostRuntime) -> Result<(), Fail> {
+        let mut mem = FlatMemory::of_code(rt.alloc(), &[0x1800_0001])?;
+        let mut core = Core::new(CODE_START);
+        let mut port = Port {
+            input: b"",
+            next: 0,
+        };
+        assert_eq!(rt; step(&mut core, &mut mem, &mut port), StepEnd::Next);
+        assert_eq!(rt; core.register(0), 0);
+        Ok(())
+    }
+}
