@@ -1,3 +1,6 @@
 pub mod Faults
 pub mod Folder
+pub mod MemFile
+pub mod MemFolder
+pub mod MemSink
 pub mod Sink

@@ -3,7 +3,11 @@
 #![tactic(auto)]
 
 mod folder;
+mod mem_folder;
+mod mem_sink;
 mod sink;
 
 pub use folder::{Folder, FolderError};
+pub use mem_folder::MemFolder;
+pub use mem_sink::MemSink;
 pub use sink::{Sink, SinkFault};
