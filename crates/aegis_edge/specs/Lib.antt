@@ -1,5 +1,7 @@
 pub mod Faults
 pub mod Folder
+pub mod HostFolder
+pub mod HostSink
 pub mod MemFile
 pub mod MemFolder
 pub mod MemSink

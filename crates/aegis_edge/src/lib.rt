@@ -3,11 +3,18 @@
 #![tactic(auto)]
 
 mod folder;
+mod host_folder;
+mod host_sink;
 mod mem_folder;
 mod mem_sink;
 mod sink;
 
 pub use folder::{Folder, FolderError};
+pub use host_folder::HostFolder;
+pub use host_sink::HostSink;
 pub use mem_folder::MemFolder;
 pub use mem_sink::MemSink;
 pub use sink::{Sink, SinkFault};
+
+#[cfg(test)]
+mod tests;

@@ -1,0 +1,17 @@
+-- A folder of the host.
+use Rattle.std.specs.Prelude.{ℕ, Result, Ok, Err}
+use Rattle.aegis_edge.specs.Faults.{one_more}
+use Rattle.aegis_edge.specs.declared.folder.FolderError.{FolderError}
+use Rattle.aegis_edge.specs.declared.folder.FolderError.TheVariants.{Missing, Failed, TooLong, OutOfMemory}
+
+-- how many faults there were
+pub record FolderOfHost : Type 0 where
+  pub faults : ℕ
+
+-- the count of faults after an answer: one more after each refusal but want of memory
+abbrev pub faults_after : {T : Type 0} → ℕ → Result T FolderError → ℕ
+faults_after before (Ok _) = before
+faults_after before (Err OutOfMemory) = before
+faults_after before (Err Missing) = one_more before
+faults_after before (Err Failed) = one_more before
+faults_after before (Err TooLong) = one_more before
