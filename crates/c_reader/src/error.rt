@@ -1,0 +1,16 @@
+//! Why a text was not read.
+use thiserror::Error;
+
+/// Why a text was not read.
+#[derive(Clone, Copy, Debug, PartialEq, Eq, Error)]
+pub enum SyntaxError {
+    /// The text is of a form that is not read yet.
+    #[error("byte {at}: not yet")]
+    NotYet {
+        /// The place of the fault in bytes.
+        at: u32,
+    },
+    /// Memory ran out.
+    #[error("out of memory")]
+    OutOfMemory,
+}
