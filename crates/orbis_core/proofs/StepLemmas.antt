@@ -4,11 +4,10 @@ use Rattle.std.proofs.lemmas.Grind.{common_steps}
 use Rattle.orbis_core.specs.declared.decode.Instr.{Instr}
 use Rattle.orbis_core.specs.declared.memory.Stop.{Stop}
 use Rattle.orbis_core.specs.declared.stepping.StepEnd.{StepEnd}
-use Rattle.orbis_core.specs.declared.flat_memory.TheConstants.{CODE_START}
 use Rattle.orbis_core.specs.Accesses.{Accesses}
 use Rattle.orbis_core.specs.Instruction.{word_of, IsInRange}
 use Rattle.orbis_core.specs.Rows.{Machine, IsRow, Steps, GoesOn, Executes}
-use Rattle.orbis_core.specs.FlatMemory.{flat_accesses, fetched}
+use Rattle.orbis_core.specs.FlatMemory.{code_start, flat_accesses, fetched}
 use Rattle.orbis_core.proofs.InstructionLemmas.{word_of-injective}
 
 -- behind the word of an instruction comes its row
@@ -20,8 +19,8 @@ IsRow-executed instruction old new end in_range executes =
       | inr none ↦ absurd (none.0.differs instruction in_range refl)
     ]
 
--- flat memory answers word number k at CODE_START + 4 * k
-pub fetched-word : (code : List ℕ) (k : ℕ) → k < length code → fetched code (CODE_START + 4 * k) ≡ Ok (get_or code k 0)
+-- flat memory answers word number k at code_start + 4 * k
+pub fetched-word : (code : List ℕ) (k : ℕ) → k < length code → fetched code (code_start + 4 * k) ≡ Ok (get_or code k 0)
 fetched-word code k below = grind (arith, common_steps)
 
 -- a step whose fetch answers the word of an instruction, and changes nothing, is its row
@@ -36,7 +35,7 @@ IsRow-fetched {M} accesses instruction old new end in_range fetches steps =
 
 -- a step over flat memory, at the word of an instruction, is its row
 pub IsRow-flat : (instruction : Instr) (k : ℕ) (old new : Machine (List ℕ)) (end : StepEnd) → IsInRange instruction
-    → old.core.pc ≡ CODE_START + 4 * k → k < length old.memory → get_or old.memory k 0 ≡ word_of instruction
+    → old.core.pc ≡ code_start + 4 * k → k < length old.memory → get_or old.memory k 0 ≡ word_of instruction
     → Steps flat_accesses old end new → IsRow instruction old end new
 IsRow-flat instruction k old new end in_range place below word =
     IsRow-fetched flat_accesses instruction old new end in_range

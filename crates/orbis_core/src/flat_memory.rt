@@ -21,13 +21,13 @@ pub struct FlatMemory {
 
 impl Model for FlatMemory {
     ghost use Rattle.std.specs.Prelude.{ℕ, List, ◌≤◌, length};
-    ghost use Rattle.orbis_core.specs.declared.flat_memory.TheConstants.{MAX_CODE_WORDS};
+    ghost use Rattle.orbis_core.specs.FlatMemory.{max_code_words};
 
     ghost Value = { List ℕ };
 
     ghost view = { λ m. m.code.items };
 
-    ghost invariant = { λ m. length m.code.items ≤ MAX_CODE_WORDS };
+    ghost invariant = { λ m. length m.code.items ≤ max_code_words };
 }
 
 impl FlatMemory {

@@ -2,7 +2,7 @@
 ghost use Rattle.std.specs.Prelude.{ℕ, ◌+◌};
 ghost use Rattle.orbis_core.specs.Accesses.{Accesses, LeavesOneFewer};
 
-/// Why a memory or a core refuses an access or an instruction.
+/// Why an access or an instruction is refused.
 #[derive(Clone, Copy, Debug, PartialEq, Eq)]
 pub enum Why {
     /// The code that runs may not make this access at this address.
@@ -20,16 +20,16 @@ pub enum Why {
 /// What stopped an access or a step.
 #[derive(Clone, Copy, Debug, PartialEq, Eq)]
 pub enum Stop {
-    /// It was refused, and changed nothing outside the chip.
+    /// It was refused, for this reason.
     Refused(Why),
-    /// The hash tree found a block that is not what was written there, at this event of the bus.
+    /// A block that the hash tree read does not have the digest that the tree keeps of it.
     Tree {
-        /// The number of the event, counted from 0.
+        /// The number of the read among the events of the bus, counted from 0.
         event: u64,
     },
-    /// The log found a block that is not what was written there, at this event of the bus.
+    /// A block that the log read bears the stamp of a write that was not made yet.
     Log {
-        /// The number of the event, counted from 0.
+        /// The number of the read among the events of the bus, counted from 0.
         event: u64,
     },
 }
