@@ -1,0 +1,5 @@
+pub mod AnswerLemmas
+pub mod CodeLemmas
+pub mod MachineLemmas
+pub mod SourceLemmas
+pub mod WordLemmas

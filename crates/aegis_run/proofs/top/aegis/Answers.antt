@@ -1,0 +1,40 @@
+use Rattle.std.proofs.Common.{ℕ, Option, None, Some, List, IfSome, sym, subst}
+use Rattle.aegis_edge.specs.Folder.{Files}
+use Rattle.aegis_run.specs.declared.ends.TopEnd.{TopEnd}
+use Rattle.aegis_run.specs.Words.{RunNames, names_in}
+use Rattle.aegis_run.specs.Answer.{AreTold, IsRefused, HoldsScript, IsRunOf, Cause, Sends, RefusesSource, RefusesScript, StartsRun}
+use Rattle.aegis_run.proofs.AnswerLemmas.{refuses_source, refuses_script, starts_run, sends_nothing}
+use Rattle.aegis_run.proofs.top.aegis.Goals as goal
+
+where_refused : (row : Option RunNames) (files : Option Files) (before now : ℕ) (end : TopEnd) → Cause row files before now end
+    → IfSome row (λ names. (at : ℕ) → AreTold files → IsRefused files names at → RefusesSource end)
+where_refused None files before now end cause = tt
+where_refused (Some names) files before now end cause = λ at told refused. refuses_source files names before now at end told refused cause
+
+where_held : (row : Option RunNames) (files : Option Files) (before now : ℕ) (end : TopEnd) → Cause row files before now end
+    → IfSome row (λ names. AreTold files → HoldsScript files names → RefusesScript end)
+where_held None files before now end cause = tt
+where_held (Some names) files before now end cause = λ told holds. refuses_script files names before now end told holds cause
+
+where_run : (row : Option RunNames) (files : Option Files) (before now : ℕ) (end : TopEnd) → Cause row files before now end
+    → IfSome row (λ names. (literals : List ℕ) → AreTold files → IsRunOf files names literals → StartsRun end)
+where_run None files before now end cause = tt
+where_run (Some names) files before now end cause = λ literals told run. starts_run files names literals before now end told run cause
+
+pub returns-clause-not_yet_where : goal.returns-clause-not_yet_where
+returns-clause-not_yet_where g c =
+    where_refused (names_in c.args.words.now) (g.F.Folder.files c.args.folder.now) _ _ c.noted.result.end (subst (Cause _ _ _ _) (sym c.noted.ensures.end) c.answer_words-outcome.ensures.cause)
+
+pub returns-clause-not_yet_script_where : goal.returns-clause-not_yet_script_where
+returns-clause-not_yet_script_where g c =
+    where_held (names_in c.args.words.now) (g.F.Folder.files c.args.folder.now) _ _ c.noted.result.end (subst (Cause _ _ _ _) (sym c.noted.ensures.end) c.answer_words-outcome.ensures.cause)
+
+pub returns-clause-run_where : goal.returns-clause-run_where
+returns-clause-run_where g c =
+    where_run (names_in c.args.words.now) (g.F.Folder.files c.args.folder.now) _ _ c.noted.result.end (subst (Cause _ _ _ _) (sym c.noted.ensures.end) c.answer_words-outcome.ensures.cause)
+
+pub returns-clause-silent : goal.returns-clause-silent
+returns-clause-silent g c = λ none.
+    sends_nothing (names_in c.args.words.now) (g.F.Folder.files c.args.folder.now) c.noted.result.end _ _ none
+    (let P : TopEnd → Type 0 = λ end. Sends (names_in c.args.words.now) (g.F.Folder.files c.args.folder.now) end (g.K.Sink.written c.args.out.now) (g.K.Sink.written c.answer_words-outcome.new.out) in
+    subst P (sym c.noted.ensures.end) c.answer_words-outcome.ensures.sends)

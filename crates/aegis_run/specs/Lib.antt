@@ -1,0 +1,5 @@
+pub mod Answer
+pub mod Code
+pub mod Opening
+pub mod Report
+pub mod Words

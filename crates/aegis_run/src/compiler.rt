@@ -1,0 +1,41 @@
+//! The compiler: from the literals that a source releases to instruction words.
+ghost use Rattle.std.specs.Prelude.{◌≡◌, IfOk};
+ghost use Rattle.aegis_run.specs.Code.{release_code, code_of};
+
+use aegis_num::OutOfMemory;
+use std::alloc::Global;
+
+/// `l.movhi r3,0`
+const LOAD_HIGH: u32 = 0x1860_0000;
+
+/// `l.ori r3,r3,0`
+const LOAD_LOW: u32 = 0xa863_0000;
+
+/// `l.cust1 6`, which releases the low byte of r3.
+const RELEASE: u32 = 0x7000_0006;
+
+/// `l.cust1 1`, which ends the program.
+const EXIT: u32 = 0x7000_0001;
+
+/// The code of a source that releases these literals.
+pub fn compile(alloc: Global, literals: &[u32]) -> Result<Vec<u32>, OutOfMemory>
+    ensures { IfOk result (λ code. code.items ≡ code_of literals.now) }
+{
+    let mut code = Vec::new(alloc);
+    for literal in literals {
+        code.extend_from_slice(&release_words(*literal))?;
+    }
+    code.push(EXIT)?;
+    Ok(code)
+}
+
+/// The words that release a literal.
+fn release_words(literal: u32) -> [u32; 3]
+    ensures { result ≡ release_code literal }
+{
+    [
+        LOAD_HIGH + literal / 0x1_0000,
+        LOAD_LOW + literal % 0x1_0000,
+        RELEASE,
+    ]
+}

@@ -1,0 +1,80 @@
+//! The answers of the program and their exit statuses.
+ghost use Rattle.std.specs.Prelude.{◌≡◌};
+ghost use Rattle.aegis_run.specs.Report.{status_when_noted, status_of as status_of_answer};
+
+use c_reader::SyntaxError;
+
+/// A file that the words on the command line name.
+#[derive(Clone, Copy, Debug, PartialEq, Eq)]
+pub enum File {
+    /// The source.
+    Source,
+    /// The script of off-chip changes.
+    Script,
+    /// The input of the secure program.
+    Input,
+}
+
+/// How a run ended.
+#[derive(Clone, Copy, Debug, PartialEq, Eq)]
+pub enum End {
+    /// The program came to its end, and every released byte was taken.
+    Ended,
+    /// A released byte was not taken.
+    WriteFault,
+}
+
+/// The answer of the program. No answer is `Syntax(SyntaxError::OutOfMemory)`: want of memory is `OutOfMemory` alone.
+#[derive(Clone, Copy, Debug, PartialEq, Eq)]
+pub enum TopEnd {
+    /// A run was started and ended so.
+    Run(End),
+    /// The words are no command.
+    Usage,
+    /// A file holds more bytes than it may.
+    TooLong(File),
+    /// The source is not read.
+    Syntax(SyntaxError),
+    /// The file asks for what is not built yet.
+    NotYet(File),
+    /// There is no file of this name.
+    NoFile(File),
+    /// A file failed while it was read.
+    ReadFault,
+    /// Memory ran out before a run was started.
+    OutOfMemory,
+}
+
+/// What a call of the program answers.
+#[derive(Clone, Copy, Debug, PartialEq, Eq)]
+pub struct Finish {
+    /// The exit status.
+    pub status: u8,
+    /// The answer.
+    pub end: TopEnd,
+    /// Whether the line of the answer was written.
+    pub noted: bool,
+}
+
+/// The exit status of an answer: 5 where its line was not written.
+pub fn status_of(end: TopEnd, noted: bool) -> u8
+    ensures { result ≡ status_of_answer end noted }
+{
+    if noted { status_of_noted(end) } else { 5 }
+}
+
+/// The exit status of an answer whose line was written.
+fn status_of_noted(end: TopEnd) -> u8
+    ensures { result ≡ status_when_noted end }
+{
+    match end {
+        TopEnd::Run(End::Ended) => 0,
+        TopEnd::Usage => 1,
+        TopEnd::Syntax(_) => 2,
+        TopEnd::NoFile(_) | TopEnd::ReadFault => 4,
+        TopEnd::Run(End::WriteFault) => 5,
+        TopEnd::OutOfMemory => 6,
+        TopEnd::TooLong(_) => 7,
+        TopEnd::NotYet(_) => 9,
+    }
+}

@@ -1,0 +1,46 @@
+//! The program `aegis`: compiles a source and runs it on the processor.
+#![tactic(auto)]
+
+mod answer;
+mod compiler;
+mod ends;
+mod files;
+mod machine;
+mod report;
+mod top;
+mod words;
+
+use aegis_edge::{HostFolder, HostSink};
+use ends::TopEnd;
+use std::alloc::AllocError;
+use std::env;
+use std::io::ErrorKind;
+use std::process::ExitCode;
+use std::rt::Env;
+use top::{aegis, noted};
+
+fn main(rt: HostRuntime) -> ExitCode {
+    let mut folder = HostFolder::new(&rt);
+    let mut out = HostSink::new(rt.stdout());
+    let mut notes = HostSink::new(rt.stderr());
+    let finish = match words_behind(&rt) {
+        Ok(words) => aegis(
+            rt.alloc(),
+            words.as_slice(),
+            &mut folder,
+            &mut out,
+            &mut notes,
+        ),
+        Err(AllocError) => noted(TopEnd::OutOfMemory, 0, &mut notes),
+    };
+    ExitCode::from(finish.status)
+}
+
+/// The words behind the program's name, and none where one of them is not UTF-8: no command has such a word.
+fn words_behind(rt: &(impl Env + AllocGlobal)) -> Result<Vec<String>, AllocError> {
+    match env::args(rt) {
+        Ok(all) => all.skip(1).collect(rt.alloc()),
+        Err(error) if error.kind() == ErrorKind::OutOfMemory => Err(AllocError),
+        Err(_) => Ok(Vec::new(rt.alloc())),
+    }
+}
