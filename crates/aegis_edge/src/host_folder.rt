@@ -1,7 +1,7 @@
 //! A folder over the files of the host.
 ghost use Rattle.std.specs.Prelude.{◌≡◌, ◌≢◌, ◌<◌, ◌≤◌, [], None, length, vec_len, OnOk, IfSome};
 ghost use Rattle.aegis_edge.specs.Folder.{IsFrontOf};
-ghost use Rattle.aegis_edge.specs.HostFolder.{faults_after};
+ghost use Rattle.aegis_edge.specs.HostFolder.{faults_after, IsWholeOfOne, IsPassedByOne};
 
 use crate::folder::{Folder, FolderError};
 use std::alloc::Global;
@@ -73,7 +73,9 @@ fn read_file<R: Files>(
     into: &mut Vec<u8>,
 ) -> Result<(), FolderError>
     requires empty { into.old.items ≡ [] }
+    ensures whole { OnOk result (IsWholeOfOne R.File.remaining into.new.items) }
     ensures within { vec_len into.new ≤ limit }
+    ensures too_long { result ≡ Err FolderError.TooLong → IsPassedByOne R.File.remaining limit }
     ensures nothing { result ≡ Err FolderError.Missing → into.new.items ≡ [] }
 {
     match fs::open(rt, name) {
@@ -97,7 +99,9 @@ impl<R: Files + Drop> Folder for HostFolder<R> {
         into: &mut Vec<u8>,
     ) -> Result<(), FolderError>
         requires empty { into.old.items ≡ [] }
+        ensures whole { OnOk result (IsWholeOfOne R.File.remaining into.new.items) }
         ensures within { vec_len into.new ≤ limit }
+        ensures too_long { result ≡ Err FolderError.TooLong → IsPassedByOne R.File.remaining limit }
         ensures nothing { result ≡ Err FolderError.Missing → into.new.items ≡ [] }
         ensures after { self.new.faults ≡ faults_after self.old.faults result }
         ensures counted { self.old.faults ≤ self.new.faults }

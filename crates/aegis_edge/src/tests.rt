@@ -18,7 +18,11 @@ fn folder_in_memory(rt: HostRuntime) -> Result<(), Fail> {
         ("none", 0, Ok(()), ""),
     ] {
         let mut into = Vec::new(alloc);
-        assert_eq!(rt; folder.read(alloc, name, limit, &mut into), answer, "at {name}");
+        assert_eq!(rt;
+            folder.read(alloc, name, limit, &mut into),
+            answer,
+            "at {name}"
+        );
         assert_eq!(rt; into.as_slice(), bytes.as_bytes(), "at {name}");
     }
     assert!(rt; folder.contains("none") && !folder.contains("wor"));
@@ -66,7 +70,11 @@ fn files_of_the_host(rt: HostRuntime) -> Result<(), Fail> {
         ("none", 0, Ok(()), 0),
     ] {
         let mut into = Vec::new(alloc);
-        assert_eq!(rt; folder.read(alloc, name, limit, &mut into), answer, "at {name}");
+        assert_eq!(rt;
+            folder.read(alloc, name, limit, &mut into),
+            answer,
+            "at {name}"
+        );
         assert_eq!(rt; Some(into.as_slice()), long.get(..count), "at {name}");
     }
     fs::remove_dir_all(&rt, place.as_str())?;
