@@ -36,6 +36,7 @@ pub fn answer_words<F: Folder, K: Sink>(
     ensures sends { Sends (names_in words.now) (F.files folder.old) result.end (K.written out.old) (K.written out.new) }
     ensures fault { result.end ≡ TopEnd.Run End.WriteFault → Rose (K.faults out.old) (K.faults out.new) }
     ensures retired { IsRetired (names_in words.now) (F.files folder.old) result.end result.retired }
+    ensures kept { F.files folder.new ≡ F.files folder.old }
 {
     let Some(names) = run_words(words) else {
         return Outcome {

@@ -28,6 +28,7 @@ pub fn prepare<F: Folder>(
     ensures refused { IfErr result (λ end.
         CauseOfRun (names_of names.now) (F.files folder.old) (F.faults folder.old) (F.faults folder.new) end) }
     ensures no_run { IfErr result IsRefusal }
+    ensures kept { F.files folder.new ≡ F.files folder.old }
 {
     let source = open(alloc, folder, names.source, File::Source)?;
     let program = parse(alloc, source.as_slice())?;

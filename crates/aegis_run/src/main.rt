@@ -44,3 +44,6 @@ fn words_behind(rt: &(impl Env + AllocGlobal)) -> Result<Vec<String>, AllocError
         Err(_) => Ok(Vec::new(rt.alloc())),
     }
 }
+
+#[cfg(test)]
+mod tests;

@@ -53,6 +53,9 @@ pub fn aegis<F: Folder, K: Sink, N: Sink>(
         → IsRunOf (F.files folder.old) names literals → StartsRun result.end) }
     ensures memory_alone { result.end ≢ TopEnd.Syntax SyntaxError.OutOfMemory }
 
+    // The files are as before.
+    ensures kept { F.files folder.new ≡ F.files folder.old }
+
     // What out took: all that the source releases, or a front of it; at each other answer nothing.
     ensures ended { result.end ≡ TopEnd.Run End.Ended
         → IfSome (names_in words.now) (λ names. (literals : List ℕ) × IsRunOf (F.files folder.old) names literals
