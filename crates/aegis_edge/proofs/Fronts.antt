@@ -3,5 +3,5 @@ use Rattle.std.proofs.Common.{◌≡◌, ℕ, List, [], refl}
 use Rattle.aegis_edge.specs.Folder.{IsFrontOf}
 
 -- nothing is the front of any file
-pub IsFrontOf-nothing : (bytes whole : List ℕ) → bytes ≡ [] → IsFrontOf bytes whole
-IsFrontOf-nothing bytes whole is_empty = (whole, rw is_empty refl)
+pub nothing_is_front : (bytes whole : List ℕ) → bytes ≡ [] → IsFrontOf bytes whole
+nothing_is_front bytes whole is_empty = (whole, rw is_empty refl)

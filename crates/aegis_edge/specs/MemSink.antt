@@ -25,7 +25,8 @@ bytes_before_fault sink = lookup (λ number. number == sink.calls) sink.failing
 
 -- how many bytes of a piece the coming call takes
 abbrev pub taken_of : SinkInMemory → List ℕ → ℕ
-taken_of sink piece = min (unwrap_or (bytes_before_fault sink) (length piece)) (min (room_left sink) (length piece))
+taken_of sink piece =
+    min (unwrap_or (bytes_before_fault sink) (length piece)) (min (room_left sink) (length piece))
 
 -- the coming call is one that fails, or the piece passes the room
 abbrev pub fails_on : SinkInMemory → List ℕ → Bool

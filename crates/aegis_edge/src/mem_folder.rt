@@ -57,7 +57,8 @@ fn find<'a>(files: &'a [MemFile], name: &str) -> Option<&'a [u8]>
 }
 
 impl MemFolder {
-    /// A folder with no file. `failing` lists the numbers of the calls of `read` that fail, counted from 0.
+    /// A folder with no file, which keeps its files in memory of `alloc`. `failing` lists the numbers of the
+    /// calls of `read` that fail, counted from 0.
     pub fn new(alloc: Global, failing: &[u64]) -> Result<MemFolder, OutOfMemory>
         ensures new { IfOk result (λ folder. folder ≡ new_folder failing.now) }
     {
@@ -78,7 +79,7 @@ impl MemFolder {
         find(&self.files, name).is_some()
     }
 
-    /// Puts in a file.
+    /// Puts in a file under a new name. Where memory runs out the folder stays as it was.
     pub fn add(&mut self, name: &str, bytes: &[u8]) -> Result<(), OutOfMemory>
         requires new_name { file_of self.old name.now ≡ None }
         ensures added { OnOk result (self.new ≡ with_file self.old name.now bytes.now) }
@@ -110,7 +111,8 @@ impl Folder for MemFolder {
 
     ghost faults = { λ folder. folder.faults };
 
-    /// Reads a file into `into`, by the allocator of `into`. A call that is listed fails, and does nothing else.
+    /// Reads a file into `into`, by the allocator of `into`. A call that is listed fails, and reads nothing.
+    #[tactic(auto, using(crate::proofs::Fronts::nothing_is_front))]
     fn read(
         &mut self,
         _alloc: Global,

@@ -67,6 +67,7 @@ fn files_of_the_host(rt: HostRuntime) -> Result<(), Fail> {
         ("lon", 5000, Err(FolderError::Missing), 0),
         ("long", 4999, Err(FolderError::TooLong), 4096),
         ("folder", 5000, Err(FolderError::Failed), 0),
+        ("none/below", 5000, Err(FolderError::Failed), 0),
         ("none", 0, Ok(()), 0),
     ] {
         let mut into = Vec::new(alloc);
@@ -81,16 +82,21 @@ fn files_of_the_host(rt: HostRuntime) -> Result<(), Fail> {
     Ok(())
 }
 
-/// A writer that takes up to `most` bytes at once, and whose flush fails where `is_stuck`.
+/// A writer that takes up to `most` bytes at once, fails once it holds `room` bytes or more, and whose flush
+/// fails where `is_stuck`.
 #[derive(Drop)]
 struct Slow<'a> {
     most: usize,
+    room: usize,
     is_stuck: bool,
     taken: &'a mut Vec<u8>,
 }
 
 impl Write for Slow<'_> {
     fn write(&mut self, buf: &[u8]) -> io::Result<usize> {
+        if self.taken.len() >= self.room {
+            return Err(io::Error::from(io::ErrorKind::StorageFull));
+        }
         let count = self.most.min(buf.len());
         self.taken.extend_from_slice(&buf[..count])?;
         Ok(count)
@@ -107,15 +113,17 @@ impl Write for Slow<'_> {
 #[test]
 fn writers_of_the_host(rt: HostRuntime) -> Result<(), Fail> {
     let alloc = rt.alloc();
-    for (most, is_stuck, answer, bytes) in [
-        (9, false, Ok(()), "abc"),
-        (1, false, Ok(()), "abc"),
-        (0, false, Err(SinkFault), ""),
-        (2, true, Err(SinkFault), "abc"),
+    for (most, room, is_stuck, answer, bytes) in [
+        (9, 9, false, Ok(()), "abc"),
+        (1, 9, false, Ok(()), "abc"),
+        (0, 9, false, Err(SinkFault), ""),
+        (1, 2, false, Err(SinkFault), "ab"),
+        (2, 9, true, Err(SinkFault), "abc"),
     ] {
         let mut taken = Vec::new(alloc);
         let mut sink = HostSink::new(Slow {
             most,
+            room,
             is_stuck,
             taken: &mut taken,
         });
