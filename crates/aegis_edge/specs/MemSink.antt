@@ -3,7 +3,7 @@ use Rattle.std.specs.Prelude.{ℕ, Bool, ◌==◌, ◌||◌, ◌-◌, nat_lt, mi
 use Rattle.std.specs.Map.{lookup}
 use Rattle.aegis_edge.specs.Faults.{one_more}
 
--- the bytes taken, how many it holds at most, which calls fail and after how many bytes, and how many calls and faults there were
+-- the bytes taken, the room in bytes, the calls that fail and after how many bytes, and how many calls and faults there were
 pub record SinkInMemory : Type 0 where
   pub bytes : List ℕ
   pub room : ℕ

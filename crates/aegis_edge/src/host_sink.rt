@@ -35,7 +35,8 @@ impl<W: Write + Drop> HostSink<W> {
 
 // Hands a piece to a writer until it took all of it, and flushes the writer.
 fn write_whole<W: Write>(writer: &mut W, bytes: &[u8]) -> Result<(), SinkFault>
-    ensures taken { OnOk result (Appends (W.contents writer.old) (W.contents writer.new) bytes.now) }
+    ensures taken { OnOk result
+        (Appends (W.contents writer.old) (W.contents writer.new) bytes.now) }
     ensures front { OnErr result
         (TakesFront (W.contents writer.old) (W.contents writer.new) bytes.now) }
 {

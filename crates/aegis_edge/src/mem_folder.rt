@@ -135,7 +135,8 @@ impl Folder for MemFolder {
         ensures full_only_at_capacity { (result ≡ Err FolderError.OutOfMemory)
             → IsSomeAnd (file_of self.old name.now) (λ bytes. vec_capacity into.old < length bytes) }
 
-        ensures front { OnErr result (HoldsFront (Some (file_of self.old)) name.now into.new.items) }
+        ensures front { OnErr result
+            (HoldsFront (Some (file_of self.old)) name.now into.new.items) }
 
         ensures after { self.new ≡ after_read self.old }
         ensures counted { self.old.faults ≤ self.new.faults }

@@ -91,7 +91,8 @@ impl Sink for MemSink {
         ensures fails { is_err result ≡ fails_on self.old bytes.now }
         ensures after { self.new ≡ after_write self.old bytes.now }
 
-        ensures taken { OnOk result (Appends (Some self.old.bytes) (Some self.new.bytes) bytes.now) }
+        ensures taken { OnOk result
+            (Appends (Some self.old.bytes) (Some self.new.bytes) bytes.now) }
         ensures failed { OnErr result (Rose self.old.faults self.new.faults) }
         ensures counted { self.old.faults ≤ self.new.faults }
     {
