@@ -1,6 +1,11 @@
 pub mod Steps
+pub mod Blanks
+pub mod Exact
+pub mod Spelled
 pub mod Numbers
 pub mod Statements
+pub mod Spelling
+pub mod Complete
 pub mod Loop
-pub mod Sources
+pub mod Places
 pub mod Examples

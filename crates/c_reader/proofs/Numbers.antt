@@ -1,11 +1,14 @@
 -- A number that is read is written so, and a number that is written is read.
-use Rattle.std.proofs.Common.{◌≡◌, ℕ, ◌+◌, ◌-◌, ◌*◌, ◌/◌, ◌%◌, ◌^◌, ◌<◌, ◌≤◌, true, leb, List, [], ◌∷◌, ◌++◌, Ok, refl, sym, ap, ◌∙◌, inl, inr, arith, append_assoc}
+use Rattle.std.proofs.Common.{◌≡◌, ℕ, ◌+◌, ◌-◌, ◌*◌, ◌/◌, ◌%◌, ◌^◌, ◌<◌, ◌≤◌, Bool, true, false, ◌||◌, leb, eqb, Err, List, [], ◌∷◌, ◌++◌, Ok, refl, sym, ap, ◌∙◌, inl, inr, arith, append_assoc}
 use Rattle.std.specs.Fmt.{decimal}
 use Rattle.std.specs.Char.{is_ascii_digit}
-use Rattle.std.proofs.lemmas.Bool.{cases_Bool, and_parts, and_from, ltb-true, leb-true, lt-ltb, le-leb}
+use Rattle.std.proofs.lemmas.Bool.{cases_Bool, eqb-true, or_cases, and_left, and_parts, and_from, ltb-true, leb-true, lt-ltb, le-leb}
 use Rattle.std.proofs.lemmas.Fmt.{decimal_step, decimal_digit, decimal_by_steps}
-use Rattle.c_reader.specs.Reading.{grows, digits_at, number_at}
+use Rattle.c_reader.specs.Source.{is_blank}
+use Rattle.c_reader.specs.Reading.{Step, ◌>>=◌, word_at, grows, digits_at, number_at, amount_at}
 use Rattle.c_reader.proofs.Steps.{guard_ok, ok_is}
+use Rattle.c_reader.proofs.Exact.{CanTake, Story, Stuck, IsExact, shift_story, head_story, RefusesBlanks, IsReader, pure_reader, bind_reader, blanks_reader}
+use Rattle.c_reader.proofs.Spelled.{IsSolid, bytes_refuse, word_reader, word_again}
 
 -- the byte is a digit
 pub record IsDigit (c : ℕ) : Type 0 where
@@ -94,3 +97,103 @@ number_again n wide = decimal_by_steps (λ m ds. m < 2 ^ 32 → (rest : List ℕ
     (λ m lt fits rest. number_one m lt rest)
     (λ m ds ge before fits rest. number_more m ds rest ge fits (before (omega arith)))
     n wide
+
+-- ---- a number and the word behind it is read exactly
+
+-- a word that no digit begins
+pub record IsMark (mark : List ℕ) : Type 0 where
+  pub solid : IsSolid mark
+  pub no_digit : is_ascii_digit solid.first ≡ false
+
+pub mark_is : (c : ℕ) (others : List ℕ) → is_blank c ≡ false → is_ascii_digit c ≡ false → IsMark (c ∷ others)
+mark_is c others no_blank no_digit = record { solid = record { first = c; others = others; spelled = refl; no_blank = no_blank }; no_digit = no_digit }
+
+-- a byte that does not make the number longer ends it
+digits_stop : (n c : ℕ) (rest : List ℕ) → grows n c ≡ false → digits_at n (c ∷ rest) ≡ (n, c ∷ rest)
+digits_stop n c rest same = rw same refl
+
+pub digits_end : (n c : ℕ) (rest : List ℕ) → is_ascii_digit c ≡ false → digits_at n (c ∷ rest) ≡ (n, c ∷ rest)
+digits_end n c rest same = digits_stop n c rest (and_left (is_ascii_digit c) _ same)
+
+pub digits_mark : (n : ℕ) (mark : List ℕ) → IsMark mark → (rest : List ℕ) → digits_at n (mark ++ rest) ≡ (n, mark ++ rest)
+digits_mark n mark is rest = rw is.solid.spelled (digits_end n is.solid.first (is.solid.others ++ rest) is.no_digit)
+
+-- the digits behind a number, and the word behind them
+abbrev behind_digits : List ℕ → ℕ → List ℕ → Step ℕ
+behind_digits mark n text = word_at mark (digits_at n text).1 >>= λ x. Ok ((digits_at n text).0, x.1)
+
+behind_can : (mark : List ℕ) (n : ℕ) → IsMark mark → CanTake (behind_digits mark n) []
+behind_can mark n is = record {
+  tail = mark;
+  value = n;
+  takes = record {
+    again = λ r.
+        rw (digits_mark n mark is r, word_again mark is.solid [] r tt) refl;
+  };
+}
+
+-- the word alone
+abbrev mark_alone : List ℕ → ℕ → List ℕ → Step ℕ
+mark_alone mark n text = word_at mark text >>= λ x. Ok (n, x.1)
+
+mark_reader : (mark : List ℕ) (n : ℕ) → IsMark mark → IsReader (mark_alone mark n)
+mark_reader mark n is = bind_reader (word_at mark) (λ x. Ok (n, x.1)) (word_reader mark is.solid) (λ value. pure_reader n)
+
+behind_step : (mark : List ℕ) (n : ℕ) (is : IsMark mark) (c : ℕ) (text : List ℕ) → ((m : ℕ) → Story (behind_digits mark m) text (behind_digits mark m text))
+    → (b : Bool) → grows n c ≡ b → Story (behind_digits mark n) (c ∷ text) (behind_digits mark n (c ∷ text))
+behind_step mark n is c text behind true same =
+    let m = 10 * n + (c - 48) in
+    rw same (shift_story c (behind_digits mark m) (behind_digits mark n) (λ t. rw same refl) text (behind_digits mark m text) (behind m))
+behind_step mark n is c text behind false same =
+    let ends : mark_alone mark n [] ≡ Err [] = rw (bytes_refuse mark is.solid).ends refl in
+    rw same (head_story c (mark_alone mark n) (behind_digits mark n) (λ t. rw same refl) (behind_can mark n is) ends text (mark_alone mark n (c ∷ text)) ((mark_reader mark n is).exact (c ∷ text)))
+
+behind_story : (mark : List ℕ) → IsMark mark → (text : List ℕ) (n : ℕ) → Story (behind_digits mark n) text (behind_digits mark n text)
+behind_story mark is [] n =
+    rw (bytes_refuse mark is.solid).ends (Stuck [] [] refl (record { again = λ c behind other same. absurd cc }) (behind_can mark n is))
+behind_story mark is (c ∷ text) n = behind_step mark n is c text (behind_story mark is text) (grows n c) refl
+
+-- the number, its further digits and the word
+abbrev marked : List ℕ → List ℕ → Step ℕ
+marked mark text = number_at text >>= λ n. word_at mark n.1 >>= λ x. Ok (n.0, x.1)
+
+marked_can : (mark : List ℕ) → IsMark mark → CanTake (marked mark) []
+unfolding number_at behind_can
+marked_can mark is = record { tail = 48 ∷ mark; value = 0; takes = record { again = (behind_can mark 0 is).takes.again } }
+
+marked_step : (mark : List ℕ) (is : IsMark mark) (c : ℕ) (text : List ℕ) (b : Bool) → is_ascii_digit c ≡ b → Story (marked mark) (c ∷ text) (marked mark (c ∷ text))
+unfolding number_at
+marked_step mark is c text true same =
+    rw same (shift_story c (behind_digits mark (c - 48)) (marked mark) (λ t. rw same refl) text (behind_digits mark (c - 48) text) (behind_story mark is text (c - 48)))
+marked_step mark is c text false same =
+    rw same (Stuck [] (c ∷ text) refl
+    (record { again = λ d left other e. let first : d ≡ c = cc in rw (first, same) refl })
+    (marked_can mark is))
+
+marked_exact : (mark : List ℕ) → IsMark mark → IsExact (marked mark)
+unfolding number_at
+marked_exact mark is [] = Stuck [] [] refl (record { again = λ c behind other same. absurd cc }) (marked_can mark is)
+marked_exact mark is (c ∷ text) = marked_step mark is c text (is_ascii_digit c) refl
+
+-- a blank is no digit
+pub blank_no_digit : (c : ℕ) → is_blank c ≡ true → is_ascii_digit c ≡ false
+blank_no_digit c blank =
+    elim (or_cases (eqb c 32 || eqb c 9) (eqb c 13 || eqb c 10) blank) [
+      | inl early ↦ elim (or_cases (eqb c 32) (eqb c 9) early) [ inl same ↦ rw (eqb-true c 32 same) refl | inr same ↦ rw (eqb-true c 9 same) refl ]
+      | inr late ↦ elim (or_cases (eqb c 13) (eqb c 10) late) [ inl same ↦ rw (eqb-true c 13 same) refl | inr same ↦ rw (eqb-true c 10 same) refl ]
+    ]
+
+pub digit_no_blank : (c : ℕ) → IsDigit c → is_blank c ≡ false
+digit_no_blank c digit = no_blank_at (is_blank c) refl
+  where
+    no_blank_at : (b : Bool) → is_blank c ≡ b → b ≡ false
+    no_blank_at true same = let no_digit = blank_no_digit c same in let is = digit_is c digit in absurd cc
+    no_blank_at false same = refl
+
+marked_refuses : (mark : List ℕ) → RefusesBlanks (marked mark)
+unfolding number_at
+marked_refuses mark = record { ends = refl; blank = λ c text blank. rw (blank_no_digit c blank) refl }
+
+pub amount_reader : (mark : List ℕ) → IsMark mark → IsReader (amount_at mark)
+unfolding amount_at
+amount_reader mark is = blanks_reader (marked mark) (marked_refuses mark) (record { exact = marked_exact mark is; can = marked_can mark is })

@@ -1,83 +1,153 @@
--- Statements that are read are written so, and those that are written are read.
-use Rattle.std.proofs.Common.{◌≡◌, ℕ, ◌^◌, ◌<◌, Bool, true, false, cond, List, ◌++◌, Option, Some, None, Ok, refl, ap, subst, ◌∙◌, arith}
+-- Statements, the header and the body are read exactly.
+use Rattle.std.proofs.Common.{◌≡◌, ℕ, zero, suc, ◌<◌, Bool, true, false, cond, eqb, List, [], ◌∷◌, ◌++◌, length, Option, Some, None, Ok, Err, refl, sym, ap, subst, ◌∙◌, arith}
 use Rattle.std.specs.Prelude.{codes}
-use Rattle.std.specs.Fmt.{decimal}
-use Rattle.c_reader.specs.Reading.{Step, ◌>>=◌, word_at, number_at, digits_at, begins_with, keyword_at, released_at, returned_at, statement_at}
-use Rattle.c_reader.proofs.Steps.{bind_ok, ok_is, word_take, word_again}
-use Rattle.c_reader.proofs.Numbers.{number_take, number_again}
+use Rattle.c_reader.specs.Reading.{Step, ◌>>=◌, blank_at, bytes_at, word_at, number_at, amount_at, begins_with, keyword_at, released_at, returned_at, statement_at, and_then, statements_within, statements_at, header_at, body_at}
+use Rattle.c_reader.proofs.Exact.{CanTake, Story, Stuck, IsExact, bind_can, bind_story, pure_can, pure_exact, same_story, head_story, takes_some, IsReader, pure_reader, bind_reader}
+use Rattle.c_reader.proofs.Spelled.{solid, blank_reader, bytes_reader, word_reader}
+use Rattle.c_reader.proofs.Numbers.{IsMark, mark_is, amount_reader}
 
--- the bytes of a keyword
-abbrev pub keyword_of : Bool → List ℕ
-keyword_of true = codes "return"
-keyword_of false = codes "release"
+-- ---- `return` or `release`
 
-keyword_end : (b : Bool) (rest : List ℕ) (x : Bool × List ℕ) → cond b (word_at (codes "turn") rest >>= λ y. Ok (true, y.1)) (word_at (codes "lease") rest >>= λ y. Ok (false, y.1)) ≡ Ok x → codes "re" ++ rest ≡ keyword_of x.0 ++ x.1
-keyword_end true rest x e =
-    let a = bind_ok (word_at (codes "turn") rest) (λ y. Ok (true, y.1)) x e in
-    ap (λ (r : List ℕ). codes "re" ++ r) (word_take (codes "turn") rest a.0 a.1) ∙ ap (λ (z : Bool × List ℕ). keyword_of z.0 ++ z.1) (ok_is (true, a.0.1) x a.2)
-keyword_end false rest x e =
-    let a = bind_ok (word_at (codes "lease") rest) (λ y. Ok (false, y.1)) x e in
-    ap (λ (r : List ℕ). codes "re" ++ r) (word_take (codes "lease") rest a.0 a.1) ∙ ap (λ (z : Bool × List ℕ). keyword_of z.0 ++ z.1) (ok_is (false, a.0.1) x a.2)
+-- what follows the bytes that both keywords begin with
+abbrev pub keyword_end : List ℕ → Step Bool
+keyword_end rest = cond (begins_with 116 rest) (bytes_at (codes "turn") rest >>= λ y. Ok (true, y.1)) (bytes_at (codes "lease") rest >>= λ y. Ok (false, y.1))
 
-keyword_take : (text : List ℕ) (x : Bool × List ℕ) → keyword_at text ≡ Ok x → text ≡ keyword_of x.0 ++ x.1
+keyword_end_can : CanTake keyword_end []
+unfolding bytes_at
+keyword_end_can = record { tail = codes "lease"; value = false; takes = record { again = λ r. refl } }
+
+turn_ends : bytes_at (codes "turn") [] ≡ Err []
+unfolding bytes_at
+turn_ends = refl
+
+lease_ends : bytes_at (codes "lease") [] ≡ Err []
+unfolding bytes_at
+lease_ends = refl
+
+keyword_end_story : (c : ℕ) (text : List ℕ) (b : Bool) → eqb c 116 ≡ b → Story keyword_end (c ∷ text) (keyword_end (c ∷ text))
+keyword_end_story c text true same =
+    let turn = bind_reader (bytes_at (codes "turn")) (λ y. Ok (true, y.1)) (bytes_reader (codes "turn")) (λ value. pure_reader true) in
+    rw same (head_story c (λ r. bytes_at (codes "turn") r >>= λ y. Ok (true, y.1)) keyword_end (λ t. rw same refl) keyword_end_can (rw turn_ends refl) text (bytes_at (codes "turn") (c ∷ text) >>= λ y. Ok (true, y.1)) (turn.exact (c ∷ text)))
+keyword_end_story c text false same =
+    let lease = bind_reader (bytes_at (codes "lease")) (λ y. Ok (false, y.1)) (bytes_reader (codes "lease")) (λ value. pure_reader false) in
+    rw same (head_story c (λ r. bytes_at (codes "lease") r >>= λ y. Ok (false, y.1)) keyword_end (λ t. rw same refl) keyword_end_can (rw lease_ends refl) text (bytes_at (codes "lease") (c ∷ text) >>= λ y. Ok (false, y.1)) (lease.exact (c ∷ text)))
+
+keyword_end_exact : IsExact keyword_end
+unfolding bytes_at
+keyword_end_exact [] = Stuck [] [] refl (record { again = λ c behind other same. absurd cc }) keyword_end_can
+keyword_end_exact (c ∷ text) = keyword_end_story c text (eqb c 116) refl
+
+keyword_reader : IsReader keyword_at
 unfolding keyword_at
-keyword_take text x e =
-    let a = bind_ok (word_at (codes "re") text) (λ y. cond (begins_with 116 y.1) (word_at (codes "turn") y.1 >>= λ z. Ok (true, z.1)) (word_at (codes "lease") y.1 >>= λ z. Ok (false, z.1))) x e in
-    word_take (codes "re") text a.0 a.1 ∙ keyword_end (begins_with 116 a.0.1) a.0.1 x a.2
+keyword_reader = bind_reader (word_at (codes "re")) (λ x. keyword_end x.1) (word_reader (codes "re") (solid (codes "re") refl)) (λ value. record { exact = keyword_end_exact; can = keyword_end_can })
 
--- a number between two words
-abbrev pub number_between : List ℕ → List ℕ → List ℕ → Step ℕ
-number_between before behind text = word_at before text >>= λ x. number_at x.1 >>= λ n. word_at behind n.1 >>= λ y. Ok (n.0, y.1)
+-- ---- a statement
 
-pub record IsBetween (before behind text : List ℕ) (x : ℕ × List ℕ) : Type 0 where
-  pub spelled : text ≡ before ++ (decimal x.0 ++ (behind ++ x.1))
-  pub fits : x.0 < 2 ^ 32
+pub closing : IsMark (codes ")")
+closing = mark_is 41 [] refl refl
 
-number_between_take : (before behind text : List ℕ) (x : ℕ × List ℕ) → number_between before behind text ≡ Ok x → IsBetween before behind text x
-number_between_take before behind text x e =
-    let a = bind_ok (word_at before text) (λ x. number_at x.1 >>= λ n. word_at behind n.1 >>= λ y. Ok (n.0, y.1)) x e in
-    let b = bind_ok (number_at a.0.1) (λ n. word_at behind n.1 >>= λ y. Ok (n.0, y.1)) x a.2 in
-    let c = bind_ok (word_at behind b.0.1) (λ y. Ok (b.0.0, y.1)) x b.2 in
-    let n = number_take a.0.1 b.0 b.1 in
-    let spelled : text ≡ before ++ (decimal b.0.0 ++ (behind ++ c.0.1)) =
-    word_take before text a.0 a.1 ∙ ap (λ (r : List ℕ). before ++ r) (n.spelled ∙ ap (λ (r : List ℕ). decimal b.0.0 ++ r) (word_take behind b.0.1 c.0 c.1)) in
-    let made : IsBetween before behind text (b.0.0, c.0.1) = record { spelled = spelled; fits = n.fits } in
-    subst (λ (y : ℕ × List ℕ). IsBetween before behind text y) (ok_is (b.0.0, c.0.1) x c.2) made
+pub semicolon : IsMark (codes ";")
+semicolon = mark_is 59 [] refl refl
 
--- the digits of a number end before this text
-abbrev pub EndsDigits : List ℕ → Type 0
-EndsDigits text = (n : ℕ) → digits_at n text ≡ (n, text)
+released_reader : IsReader released_at
+unfolding released_at
+released_reader =
+    bind_reader (word_at (codes "(")) (λ x. amount_at (codes ")") x.1 >>= λ n. word_at (codes ";") n.1 >>= λ y. Ok (n.0, y.1)) (word_reader (codes "(") (solid (codes "(") refl)) (λ _.
+    bind_reader (amount_at (codes ")")) (λ n. word_at (codes ";") n.1 >>= λ y. Ok (n.0, y.1)) (amount_reader (codes ")") closing) (λ n.
+    bind_reader (word_at (codes ";")) (λ y. Ok (n, y.1)) (word_reader (codes ";") (solid (codes ";") refl)) (λ _. pure_reader n)))
 
-number_between_again : (before behind rest : List ℕ) (n : ℕ) → n < 2 ^ 32 → EndsDigits (behind ++ rest) → number_between before behind (before ++ (decimal n ++ (behind ++ rest))) ≡ Ok (n, rest)
-number_between_again before behind rest n lt ends =
-    rw (word_again before (decimal n ++ (behind ++ rest)), number_again n (omega arith) lt (behind ++ rest), ends n, word_again behind rest) refl
+returned_reader : IsReader returned_at
+unfolding returned_at
+returned_reader =
+    bind_reader blank_at (λ x. amount_at (codes ";") x.1 >>= λ n. word_at (codes "}") n.1 >>= λ y. Ok (n.0, y.1)) blank_reader (λ _.
+    bind_reader (amount_at (codes ";")) (λ n. word_at (codes "}") n.1 >>= λ y. Ok (n.0, y.1)) (amount_reader (codes ";") semicolon) (λ n.
+    bind_reader (word_at (codes "}")) (λ y. Ok (n, y.1)) (word_reader (codes "}") (solid (codes "}") refl)) (λ _. pure_reader n)))
 
--- what a statement is: a release of a literal, or the return of some number
-pub data IsStatement (text : List ℕ) : Option ℕ × List ℕ → Type 0 where
-  Releases : (n : ℕ) (rest : List ℕ) → n < 2 ^ 32 → text ≡ codes "release(" ++ (decimal n ++ (codes ");" ++ rest)) → IsStatement text (Some n, rest)
-  Returns : (n : ℕ) (rest : List ℕ) → n < 2 ^ 32 → text ≡ codes "return " ++ (decimal n ++ (codes ";}" ++ rest)) → IsStatement text (None, rest)
+-- what follows a keyword
+abbrev pub statement_end : Bool → List ℕ → Step (Option ℕ)
+statement_end is_return rest = cond is_return (returned_at rest >>= λ y. Ok (None, y.1)) (released_at rest >>= λ n. Ok (Some n.0, n.1))
 
-statement_end : (text : List ℕ) (is_return : Bool) (rest : List ℕ) (x : Option ℕ × List ℕ) → text ≡ keyword_of is_return ++ rest → cond is_return (returned_at rest >>= λ y. Ok (None, y.1)) (released_at rest >>= λ n. Ok (Some n.0, n.1)) ≡ Ok x → IsStatement text x
-unfolding returned_at released_at
-statement_end text true rest x front e =
-    let a = bind_ok (number_between (codes " ") (codes ";}") rest) (λ y. Ok (None, y.1)) x e in
-    let b = number_between_take (codes " ") (codes ";}") rest a.0 a.1 in
-    subst (λ (y : Option ℕ × List ℕ). IsStatement text y) (ok_is (None, a.0.1) x a.2) (Returns a.0.0 a.0.1 b.fits (front ∙ ap (λ (r : List ℕ). codes "return" ++ r) b.spelled))
-statement_end text false rest x front e =
-    let a = bind_ok (number_between (codes "(") (codes ");") rest) (λ n. Ok (Some n.0, n.1)) x e in
-    let b = number_between_take (codes "(") (codes ");") rest a.0 a.1 in
-    subst (λ (y : Option ℕ × List ℕ). IsStatement text y) (ok_is (Some a.0.0, a.0.1) x a.2) (Releases a.0.0 a.0.1 b.fits (front ∙ ap (λ (r : List ℕ). codes "release" ++ r) b.spelled))
+statement_end_reader : (is_return : Bool) → IsReader (statement_end is_return)
+statement_end_reader true = bind_reader returned_at (λ y. Ok (None, y.1)) returned_reader (λ _. pure_reader None)
+statement_end_reader false = bind_reader released_at (λ n. Ok (Some n.0, n.1)) released_reader (λ n. pure_reader (Some n))
 
-pub statement_take : (text : List ℕ) (x : Option ℕ × List ℕ) → statement_at text ≡ Ok x → IsStatement text x
+statement_reader : IsReader statement_at
 unfolding statement_at
-statement_take text x e =
-    let a = bind_ok (keyword_at text) (λ y. cond y.0 (returned_at y.1 >>= λ z. Ok (None, z.1)) (released_at y.1 >>= λ n. Ok (Some n.0, n.1))) x e in
-    statement_end text a.0.0 a.0.1 x (keyword_take text a.0 a.1) a.2
+statement_reader = bind_reader keyword_at (λ x. statement_end x.0 x.1) keyword_reader statement_end_reader
 
-pub release_again : (n : ℕ) (rest : List ℕ) → n < 2 ^ 32 → statement_at (codes "release(" ++ (decimal n ++ (codes ");" ++ rest))) ≡ Ok (Some n, rest)
-unfolding statement_at keyword_at released_at word_at
-release_again n rest lt = rw (number_between_again (codes "(") (codes ");") rest n lt (λ m. refl)) refl
+-- a statement is not empty
+pub statement_shorter : (text : List ℕ) (x : Option ℕ × List ℕ) → statement_at text ≡ Ok x → length x.1 < length text
+unfolding statement_at keyword_at bytes_at
+statement_shorter text x e = takes_some statement_at refl text (statement_at text) (statement_reader.exact text) x.0 x.1 e
 
-pub return_again : (n : ℕ) (rest : List ℕ) → n < 2 ^ 32 → statement_at (codes "return " ++ (decimal n ++ (codes ";}" ++ rest))) ≡ Ok (None, rest)
-unfolding statement_at keyword_at returned_at word_at
-return_again n rest lt = rw (number_between_again (codes " ") (codes ";}") rest n lt (λ m. refl)) refl
+-- ---- statements
+
+fuel_step : (f g : ℕ) (text : List ℕ) → ((rest : List ℕ) → length rest < length text → statements_within f rest ≡ statements_within g rest) → (step : Step (Option ℕ)) → statement_at text ≡ step → (step >>= λ x. and_then (statements_within f) x.0 x.1) ≡ (step >>= λ x. and_then (statements_within g) x.0 x.1)
+fuel_step f g text behind (Ok (None, rest)) e = refl
+fuel_step f g text behind (Ok (Some n, rest)) e = ap (λ (s : Step (List ℕ)). s >>= λ x. Ok (n ∷ x.0, x.1)) (behind rest (statement_shorter text (Some n, rest) e))
+fuel_step f g text behind (Err rest) e = refl
+
+-- more fuel than bytes makes no difference
+fuel_free : (f g : ℕ) (text : List ℕ) → length text < f → length text < g → statements_within f text ≡ statements_within g text
+unfolding statements_within
+fuel_free zero g text lf lg = absurd (omega arith)
+fuel_free (suc f) zero text lf lg = absurd (omega arith)
+fuel_free (suc f) (suc g) text lf lg = fuel_step f g text (λ rest lt. fuel_free f g rest (omega arith) (omega arith)) (statement_at text) refl
+
+-- one statement, and the others
+abbrev pub one_and_others : List ℕ → Step (List ℕ)
+one_and_others text = statement_at text >>= λ x. and_then statements_at x.0 x.1
+
+others_step : (text : List ℕ) (step : Step (Option ℕ)) → statement_at text ≡ step → (step >>= λ x. and_then (statements_within (length text)) x.0 x.1) ≡ (step >>= λ x. and_then statements_at x.0 x.1)
+others_step text (Ok (None, rest)) e = refl
+others_step text (Ok (Some n, rest)) e =
+    let shorter = statement_shorter text (Some n, rest) e in
+    ap (λ (s : Step (List ℕ)). s >>= λ x. Ok (n ∷ x.0, x.1)) (fuel_free (length text) (suc (length rest)) rest shorter (omega arith))
+others_step text (Err rest) e = refl
+
+pub statements_by_one : (text : List ℕ) → statements_at text ≡ one_and_others text
+unfolding statements_within
+statements_by_one text = others_step text (statement_at text) refl
+
+return_taken : (r : List ℕ) → statement_at (codes "return 0;}" ++ r) ≡ Ok (None, r)
+unfolding statement_at keyword_at returned_at amount_at number_at bytes_at blank_at
+return_taken r = refl
+
+return_can : CanTake statements_at []
+return_can = record { tail = codes "return 0;}"; value = []; takes = record { again = λ r. statements_by_one (codes "return 0;}" ++ r) ∙ rw (return_taken r) refl } }
+
+statements_can : (first : Option ℕ) → CanTake (λ r. and_then statements_at first r) []
+statements_can None = pure_can []
+statements_can (Some n) = bind_can statements_at (λ x. Ok (n ∷ x.0, x.1)) [] return_can (pure_can (n ∷ return_can.value))
+
+others_story : (first : Option ℕ) (rest : List ℕ) → Story statements_at rest (statements_at rest) → Story (λ r. and_then statements_at first r) rest (and_then statements_at first rest)
+others_story None rest behind = pure_exact [] rest
+others_story (Some n) rest behind = bind_story statements_at (λ x. Ok (n ∷ x.0, x.1)) rest (statements_at rest) behind (λ value left e. pure_exact (n ∷ value) left) (λ value. pure_can (n ∷ value))
+
+statements_story : (bound : ℕ) (text : List ℕ) → length text < bound → Story statements_at text (statements_at text)
+statements_story zero text lt = absurd (omega arith)
+statements_story (suc bound) text lt =
+    let whole = bind_story statement_at (λ x. and_then statements_at x.0 x.1) text (statement_at text) (statement_reader.exact text)
+    (λ first rest e. others_story first rest (statements_story bound rest (let shorter = statement_shorter text (first, rest) e in omega arith)))
+    statements_can in
+    subst (λ (step : Step (List ℕ)). Story statements_at text step) (sym (statements_by_one text)) (same_story one_and_others statements_at statements_by_one text (one_and_others text) whole)
+
+pub statements_reader : IsReader statements_at
+statements_reader = record { exact = λ text. statements_story (suc (length text)) text (omega arith); can = return_can }
+
+-- ---- the header and the body
+
+header_reader : IsReader header_at
+unfolding header_at
+header_reader =
+    bind_reader (word_at (codes "int")) (λ x. blank_at x.1 >>= λ x. word_at (codes "main") x.1 >>= λ x. word_at (codes "(") x.1 >>= λ x. word_at (codes "void") x.1 >>= λ x. word_at (codes ")") x.1 >>= λ x. word_at (codes "{") x.1) (word_reader (codes "int") (solid (codes "int") refl)) (λ _.
+    bind_reader blank_at (λ x. word_at (codes "main") x.1 >>= λ x. word_at (codes "(") x.1 >>= λ x. word_at (codes "void") x.1 >>= λ x. word_at (codes ")") x.1 >>= λ x. word_at (codes "{") x.1) blank_reader (λ _.
+    bind_reader (word_at (codes "main")) (λ x. word_at (codes "(") x.1 >>= λ x. word_at (codes "void") x.1 >>= λ x. word_at (codes ")") x.1 >>= λ x. word_at (codes "{") x.1) (word_reader (codes "main") (solid (codes "main") refl)) (λ _.
+    bind_reader (word_at (codes "(")) (λ x. word_at (codes "void") x.1 >>= λ x. word_at (codes ")") x.1 >>= λ x. word_at (codes "{") x.1) (word_reader (codes "(") (solid (codes "(") refl)) (λ _.
+    bind_reader (word_at (codes "void")) (λ x. word_at (codes ")") x.1 >>= λ x. word_at (codes "{") x.1) (word_reader (codes "void") (solid (codes "void") refl)) (λ _.
+    bind_reader (word_at (codes ")")) (λ x. word_at (codes "{") x.1) (word_reader (codes ")") (solid (codes ")") refl)) (λ _.
+    word_reader (codes "{") (solid (codes "{") refl)))))))
+
+pub body_reader : IsReader body_at
+unfolding body_at
+body_reader = bind_reader header_at (λ x. statements_at x.1) header_reader (λ _. statements_reader)

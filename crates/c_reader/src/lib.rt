@@ -7,7 +7,7 @@ mod number;
 mod program;
 mod reading;
 mod stop;
-mod word;
+mod words;
 
 pub use error::SyntaxError;
 pub use laws::release_one_list;

@@ -1,8 +1,9 @@
 //! Decimal numbers below 2^32.
 ghost use Rattle.std.specs.Prelude.{◌≡◌};
-ghost use Rattle.c_reader.specs.Reading.{Gives, grown, digits_at, number_at};
+ghost use Rattle.c_reader.specs.Reading.{Gives, grown, digits_at, number_at, amount_at};
 
 use crate::stop::Stop;
+use crate::words::{after_blanks, word};
 
 /// The number with one more digit, where the byte is a digit and makes a number of this spelling below 2^32.
 fn grown(number: u32, byte: u8) -> Option<u32>
@@ -31,7 +32,7 @@ fn digits(number: u32, text: &[u8]) -> (u32, &[u8])
 
 /// Reads a number at the front of a text, and answers it and what is left.
 #[tactic(auto, unfolding(crate::specs::Reading::number_at))]
-pub fn number(text: &[u8]) -> Result<(u32, &[u8]), Stop<'_>>
+fn number(text: &[u8]) -> Result<(u32, &[u8]), Stop<'_>>
     ensures { Gives (λ x. (x.0, x.1.now)) result (number_at text.now) }
 {
     match text {
@@ -40,4 +41,14 @@ pub fn number(text: &[u8]) -> Result<(u32, &[u8]), Stop<'_>>
         }
         _ => Err(Stop::At(text)),
     }
+}
+
+/// Reads a number and the word behind it, and answers the number and what is left.
+#[tactic(auto, unfolding(crate::specs::Reading::amount_at))]
+pub fn amount<'a>(mark: &[u8], text: &'a [u8]) -> Result<(u32, &'a [u8]), Stop<'a>>
+    ensures { Gives (λ x. (x.0, x.1.now)) result (amount_at mark.now text.now) }
+{
+    let (number, rest) = number(after_blanks(text))?;
+    let rest = word(mark, rest)?;
+    Ok((number, rest))
 }

@@ -1,4 +1,4 @@
-use Rattle.c_reader.proofs.Sources.{one_list}
+use Rattle.c_reader.proofs.Complete.{one_list}
 use Rattle.c_reader.proofs.laws.release_one_list.Goals as goal
 
 pub returns : goal.returns

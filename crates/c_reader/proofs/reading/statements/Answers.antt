@@ -1,7 +1,8 @@
 use Rattle.std.proofs.Common.{◌≡◌, Some, None, Ok}
 use Rattle.std.proofs.lemmas.Result.{err_from_is_err_and}
 use Rattle.c_reader.specs.Reading.{statement_at}
-use Rattle.c_reader.proofs.Loop.{stops, is_done, goes_on, statement_shorter}
+use Rattle.c_reader.proofs.Loop.{stops, is_done, goes_on}
+use Rattle.c_reader.proofs.Statements.{statement_shorter}
 use Rattle.c_reader.proofs.reading.statements.Goals as goal
 
 pub returns-in_err-statement : goal.returns-in_err-statement
