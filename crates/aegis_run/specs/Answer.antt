@@ -5,7 +5,7 @@ use Rattle.aegis_edge.specs.Faults.{Rose}
 use Rattle.aegis_edge.specs.Folder.{Files, HoldsWhole, content_of}
 use Rattle.aegis_edge.specs.Sink.{Appends, AppendsFront}
 use Rattle.c_reader.specs.declared.SyntaxError.TheVariants as syntax
-use Rattle.c_reader.specs.Source.{IsSource}
+use Rattle.c_reader.specs.Source.{IsSource, IsFaultPlace}
 use Rattle.aegis_run.specs.declared.ends.File.{File}
 use Rattle.aegis_run.specs.declared.ends.File.TheVariants.{Source, Script, Input}
 use Rattle.aegis_run.specs.declared.ends.End.TheVariants.{Ended, WriteFault}
@@ -57,10 +57,10 @@ abbrev pub IsOverlong : Option Files → List ℕ → File → ℕ → ℕ → T
 IsOverlong None name file before now = Rose before now
 IsOverlong (Some files) name file before now = limit_for file < length (content_of files name)
 
--- a text is no source, and this is the place where it is refused
+-- a text is no source, and the longest front of it that some source begins with ends at this place
 pub record IsNoSource (text : List ℕ) (at : ℕ) : Type 0 where
   pub none : (literals : List ℕ) → IsSource text literals → ⊥
-  pub place : at ≡ 0
+  pub place : IsFaultPlace text at
 
 -- the source was read, and is refused at this place
 pub record IsRefused (files : Option Files) (names : RunNames) (at : ℕ) : Type 0 where

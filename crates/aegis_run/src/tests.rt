@@ -25,17 +25,71 @@ fn rows(rt: HostRuntime) -> Result<(), Fail> {
     let retired = "ended retired 7 events 0\n";
     let ended = TopEnd::Run(End::Ended);
     let faulty = TopEnd::Run(End::WriteFault);
-    let not_yet = TopEnd::Syntax(SyntaxError::NotYet { at: 0 });
+    let not_yet = TopEnd::Syntax(SyntaxError::NotYet { at: 35 });
     let no_read: &[u64] = &[];
     let no_write: &[(u64, u64)] = &[];
     for (files, fuel, reads, writes, end, out, line, status) in [
         (hi, "8000000", no_read, no_write, ended, "Hi", retired, 0),
-        (hi, "33554433", no_read, no_write, TopEnd::Usage, "", usage, 1),
-        (hi, "8000000", &[0], no_write, TopEnd::ReadFault, "", "read fault\n", 4),
-        (hi, "8000000", &[1], no_write, TopEnd::ReadFault, "", "read fault\n", 4),
-        (hi, "8000000", &[2], no_write, TopEnd::ReadFault, "", "read fault\n", 4),
-        (hi, "8000000", no_read, &[(0, 0)], faulty, "", "write fault\n", 5),
-        (hi, "8000000", no_read, &[(1, 0)], faulty, "H", "write fault\n", 5),
+        (
+            hi,
+            "33554433",
+            no_read,
+            no_write,
+            TopEnd::Usage,
+            "",
+            usage,
+            1,
+        ),
+        (
+            hi,
+            "8000000",
+            &[0],
+            no_write,
+            TopEnd::ReadFault,
+            "",
+            "read fault\n",
+            4,
+        ),
+        (
+            hi,
+            "8000000",
+            &[1],
+            no_write,
+            TopEnd::ReadFault,
+            "",
+            "read fault\n",
+            4,
+        ),
+        (
+            hi,
+            "8000000",
+            &[2],
+            no_write,
+            TopEnd::ReadFault,
+            "",
+            "read fault\n",
+            4,
+        ),
+        (
+            hi,
+            "8000000",
+            no_read,
+            &[(0, 0)],
+            faulty,
+            "",
+            "write fault\n",
+            5,
+        ),
+        (
+            hi,
+            "8000000",
+            no_read,
+            &[(1, 0)],
+            faulty,
+            "H",
+            "write fault\n",
+            5,
+        ),
         (
             ["low", "none", "none"],
             "8000000",
@@ -53,7 +107,7 @@ fn rows(rt: HostRuntime) -> Result<(), Fail> {
             no_write,
             not_yet,
             "",
-            "byte 0: not yet\n",
+            "byte 35: not yet\n",
             2,
         ),
         (
