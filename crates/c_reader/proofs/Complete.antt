@@ -8,7 +8,7 @@ use Rattle.c_reader.specs.Source.{is_blank, AreBlanks, begins_blank, Word, word,
 use Rattle.c_reader.specs.Reading.{Step, after_blanks, blank_at, bytes_at, word_at, digits_at, amount_at, keyword_at, released_at, returned_at, statement_at, statements_at, header_at, body_at, source_at}
 use Rattle.c_reader.proofs.Steps.{ok_is}
 use Rattle.c_reader.proofs.Blanks.{after_blanks-append, after_all_blanks}
-use Rattle.c_reader.proofs.Spelled.{IsSolid, solid, solid_left, word_again}
+use Rattle.c_reader.proofs.WordReaders.{IsSolid, solid, solid_left, word_again}
 use Rattle.c_reader.proofs.Numbers.{IsMark, digit_no_blank, digits_end, digits_mark, blank_no_digit, number_again}
 use Rattle.c_reader.proofs.Statements.{closing, semicolon, keyword_end, statements_by_one}
 

@@ -1,7 +1,7 @@
 pub mod Steps
 pub mod Blanks
 pub mod Exact
-pub mod Spelled
+pub mod WordReaders
 pub mod Numbers
 pub mod Statements
 pub mod Spelling

@@ -8,7 +8,7 @@ use Rattle.c_reader.specs.Source.{is_blank}
 use Rattle.c_reader.specs.Reading.{Step, ◌>>=◌, word_at, grows, digits_at, number_at, amount_at}
 use Rattle.c_reader.proofs.Steps.{guard_ok, ok_is}
 use Rattle.c_reader.proofs.Exact.{CanTake, Story, Stuck, IsExact, shift_story, head_story, RefusesBlanks, IsReader, pure_reader, bind_reader, blanks_reader}
-use Rattle.c_reader.proofs.Spelled.{IsSolid, bytes_refuse, word_reader, word_again}
+use Rattle.c_reader.proofs.WordReaders.{IsSolid, bytes_refuse, word_reader, word_again}
 
 -- the byte is a digit
 pub record IsDigit (c : ℕ) : Type 0 where

@@ -9,7 +9,7 @@ use Rattle.c_reader.specs.Source.{is_blank, AreBlanks, Word, word, parted_word, 
 use Rattle.c_reader.specs.Reading.{◌>>=◌, after_blanks, blank_at, bytes_at, word_at, number_at, amount_at, begins_with, keyword_at, released_at, returned_at, statement_at, and_then, statements_within, statements_at, header_at, body_at, ended, source_at}
 use Rattle.c_reader.proofs.Steps.{bind_ok, guard_ok, ok_is}
 use Rattle.c_reader.proofs.Blanks.{splits_blanks}
-use Rattle.c_reader.proofs.Spelled.{bytes_take}
+use Rattle.c_reader.proofs.WordReaders.{bytes_take}
 use Rattle.c_reader.proofs.Numbers.{number_take}
 use Rattle.c_reader.proofs.Statements.{keyword_end, statement_end}
 

@@ -3,7 +3,7 @@ use Rattle.std.proofs.Common.{◌≡◌, ℕ, zero, suc, ◌<◌, Bool, true, fa
 use Rattle.std.specs.Prelude.{codes}
 use Rattle.c_reader.specs.Reading.{Step, ◌>>=◌, blank_at, bytes_at, word_at, number_at, amount_at, begins_with, keyword_at, released_at, returned_at, statement_at, and_then, statements_within, statements_at, header_at, body_at}
 use Rattle.c_reader.proofs.Exact.{CanTake, Story, Stuck, IsExact, bind_can, bind_story, pure_can, pure_exact, same_story, head_story, takes_some, IsReader, pure_reader, bind_reader}
-use Rattle.c_reader.proofs.Spelled.{solid, blank_reader, bytes_reader, word_reader}
+use Rattle.c_reader.proofs.WordReaders.{solid, blank_reader, bytes_reader, word_reader}
 use Rattle.c_reader.proofs.Numbers.{IsMark, mark_is, amount_reader}
 
 -- ---- `return` or `release`

@@ -1,5 +1,6 @@
 -- How a text is read from left to right: the answer of each part of the reader, and what is left behind it.
--- Where a part stops, what is left begins with the first byte that does not fit.
+-- Where a part stops, what is left begins with the first byte that does not fit. The private functions answer so;
+-- public contracts speak of sources alone.
 use Rattle.std.specs.Prelude.{◌≡◌, ℕ, zero, suc, ◌+◌, ◌-◌, ◌*◌, ◌^◌, Bool, true, false, ◌&&◌, List, [], ◌∷◌, length, codes, Option, Some, None, Result, Ok, Err, nat_lt, ◌==◌, if◌then◌else◌}
 use Rattle.std.specs.Char.{is_ascii_digit}
 use Rattle.c_reader.specs.declared.stop.Stop.{Stop}

@@ -7,7 +7,7 @@ pub enum SyntaxError {
     /// The text is of a form that is not read yet.
     #[error("byte {at}: not yet")]
     NotYet {
-        /// The place of the fault in bytes.
+        /// How many bytes stand before the fault.
         at: u32,
     },
     /// Memory ran out.

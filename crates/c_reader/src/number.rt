@@ -5,7 +5,8 @@ ghost use Rattle.c_reader.specs.Reading.{Gives, grown, digits_at, number_at, amo
 use crate::stop::Stop;
 use crate::words::{after_blanks, word};
 
-/// The number with one more digit, where the byte is a digit and makes a number of this spelling below 2^32.
+/// The number with one more digit, where the byte is a digit and the number then has no leading zero
+/// and is below 2^32.
 fn grown(number: u32, byte: u8) -> Option<u32>
     ensures { result ≡ grown number byte }
 {

@@ -113,14 +113,15 @@ fn source(alloc: Global, text: &[u8]) -> Result<(Vec<u32>, &[u8]), Stop<'_>>
     Ok((literals, rest))
 }
 
-/// Reads a source text of the first form: `int main(void){`, any number of `release(N);`, `return N;` and `}`,
-/// in this order. N is a decimal number below 2^32 with no leading zero. Spaces, tabs, carriage returns and
-/// line feeds may stand between its words, before the first and behind the last; at least one stands behind
-/// `int` and behind `return`.
+/// Reads a source text of the first form: `int main(void){`, any number of `release(N);`,
+/// `return N;` and `}`, in this order. N is a decimal number below 2^32 with no leading zero. Spaces,
+/// tabs, carriage returns and line feeds may stand between its words, before the first and behind the
+/// last; at least one stands behind `int` and behind `return`.
 ///
 /// # Errors
 ///
-/// `NotYet` for each other text, with the place of its first fault, and `OutOfMemory`.
+/// `NotYet` for each other text, with the place of the first byte that no source has there, and
+/// `OutOfMemory`.
 pub fn read_text(alloc: Global, text: &[u8]) -> Result<Program, SyntaxError>
     requires { length text.now ≤ MAX_SOURCE_BYTES }
     // What is read is a source with these literals.

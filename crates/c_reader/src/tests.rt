@@ -1,4 +1,6 @@
 use super::*;
+use aegis_num::limits::MAX_SOURCE_BYTES;
+use std::test::Fail;
 
 #[test]
 fn reads_sources(rt: HostRuntime) {
@@ -45,4 +47,17 @@ fn tells_places(rt: HostRuntime) {
         let fault = read_text(rt.alloc(), text).err();
         assert_eq!(rt; fault, Some(SyntaxError::NotYet { at: place }));
     }
+}
+
+#[test]
+fn reads_the_longest_text(rt: HostRuntime) -> Result<(), Fail> {
+    let mut text = Vec::from_slice(rt.alloc(), b"int main(void){")?;
+    for _ in 0..23_829 {
+        text.extend_from_slice(b"release(7);")?;
+    }
+    text.extend_from_slice(b"return 0;}")?;
+    assert_eq!(rt; text.len() as u64, MAX_SOURCE_BYTES);
+    let program = read_text(rt.alloc(), text.as_slice())?;
+    assert_eq!(rt; program.literals().len(), 23_829);
+    Ok(())
 }

@@ -1,4 +1,4 @@
-use Rattle.c_reader.proofs.Spelled.{bytes_end}
+use Rattle.c_reader.proofs.WordReaders.{bytes_end}
 use Rattle.c_reader.proofs.words.bytes.Goals as goal
 
 pub returns-in_default : goal.returns-in_default
