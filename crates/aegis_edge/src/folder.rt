@@ -49,7 +49,8 @@ pub trait Folder {
         ensures nothing { result ≡ Err FolderError.Missing → into.new.items ≡ [] }
         ensures too_long { result ≡ Err FolderError.TooLong
             → IsTooLong (files self.old) name.now limit (faults self.old) (faults self.new) }
-        ensures failed { result ≡ Err FolderError.Failed → Rose (faults self.old) (faults self.new) }
+        ensures failed { result ≡ Err FolderError.Failed
+            → Rose (faults self.old) (faults self.new) }
         ensures front { OnErr result (HoldsFront (files self.old) name.now into.new.items) }
 
         ensures kept { files self.new ≡ files self.old }

@@ -1,5 +1,6 @@
 //! The edge of the trusted chip: where files come from and where released bytes and reports go.
-//! Code above is generic over `Folder` and `Sink`, and is proved once for folders and sinks in memory and of the host.
+//! Code above is generic over `Folder` and `Sink`, and is proved once for folders and sinks in memory
+//! and of the host.
 #![tactic(auto)]
 
 mod folder;

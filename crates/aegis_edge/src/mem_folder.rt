@@ -133,7 +133,8 @@ impl Folder for MemFolder {
             ↔ ((fails_next self.old ≡ false)
             × IsSomeAnd (file_of self.old name.now) (λ bytes. limit < length bytes)) }
         ensures full_only_at_capacity { (result ≡ Err FolderError.OutOfMemory)
-            → IsSomeAnd (file_of self.old name.now) (λ bytes. vec_capacity into.old < length bytes) }
+            → IsSomeAnd (file_of self.old name.now)
+            (λ bytes. vec_capacity into.old < length bytes) }
 
         ensures front { OnErr result
             (HoldsFront (Some (file_of self.old)) name.now into.new.items) }

@@ -26,10 +26,12 @@ pub trait Sink {
         requires within { IsWithin (limit self.old) bytes.now }
 
         ensures taken { OnOk result (Appends (written self.old) (written self.new) bytes.now) }
-        ensures left { OnOk result (limit self.new ≡ limit_after (limit self.old) (length bytes.now)) }
+        ensures left { OnOk result
+            (limit self.new ≡ limit_after (limit self.old) (length bytes.now)) }
 
         ensures failed { OnErr result (Rose (faults self.old) (faults self.new)) }
-        ensures front { OnErr result (AppendsFront (written self.old) (written self.new) bytes.now) }
+        ensures front { OnErr result
+            (AppendsFront (written self.old) (written self.new) bytes.now) }
 
         ensures unlimited { limit self.old ≡ None → limit self.new ≡ None }
         ensures counted { faults self.old ≤ faults self.new };

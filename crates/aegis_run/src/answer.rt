@@ -32,10 +32,14 @@ pub fn answer_words<F: Folder, K: Sink>(
 ) -> Outcome
     requires { K.limit out.old ≡ None }
 
-    ensures cause { Cause (names_in words.now) (F.files folder.old) (F.faults folder.old) (F.faults folder.new) result.end }
-    ensures sends { Sends (names_in words.now) (F.files folder.old) result.end (K.written out.old) (K.written out.new) }
-    ensures fault { result.end ≡ TopEnd.Run End.WriteFault → Rose (K.faults out.old) (K.faults out.new) }
-    ensures retired { IsRetired (names_in words.now) (F.files folder.old) result.end result.retired }
+    ensures cause { Cause (names_in words.now) (F.files folder.old)
+        (F.faults folder.old) (F.faults folder.new) result.end }
+    ensures sends { Sends (names_in words.now) (F.files folder.old) result.end
+        (K.written out.old) (K.written out.new) }
+    ensures fault { result.end ≡ TopEnd.Run End.WriteFault
+        → Rose (K.faults out.old) (K.faults out.new) }
+    ensures retired { IsRetired (names_in words.now) (F.files folder.old)
+        result.end result.retired }
     ensures kept { F.files folder.new ≡ F.files folder.old }
 {
     let Some(names) = run_words(words) else {
@@ -56,8 +60,10 @@ fn answer_prepared<K: Sink>(alloc: Global, prepared: &Prepared, out: &mut K) -> 
     requires few { 11 * length prepared.now.program ≤ MAX_SOURCE_BYTES }
     requires small { AllByRecursion (λ n. n < 2 ^ 32) prepared.now.program }
 
-    ensures sends { SendsOnly result.end (K.written out.old) (K.written out.new) (released prepared.now.program) }
-    ensures fault { result.end ≡ TopEnd.Run End.WriteFault → Rose (K.faults out.old) (K.faults out.new) }
+    ensures sends { SendsOnly result.end (K.written out.old) (K.written out.new)
+        (released prepared.now.program) }
+    ensures fault { result.end ≡ TopEnd.Run End.WriteFault
+        → Rose (K.faults out.old) (K.faults out.new) }
     ensures retired { result.end ≡ TopEnd.Run End.Ended
         → result.retired ≡ 3 * length prepared.now.program + 1 }
 {
@@ -81,7 +87,8 @@ fn execute<K: Sink>(alloc: Global, prepared: &Prepared, out: &mut K) -> Result<R
 
     ensures delivered { IfOk result (λ ran.
         Delivers ran.end (K.written out.old) (K.written out.new) (released prepared.now.program)) }
-    ensures fault { IfOk result (λ ran. ran.end ≡ End.WriteFault → Rose (K.faults out.old) (K.faults out.new)) }
+    ensures fault { IfOk result (λ ran. ran.end ≡ End.WriteFault
+        → Rose (K.faults out.old) (K.faults out.new)) }
     ensures retired { IfOk result (λ ran. ran.end ≡ End.Ended
         → ran.retired ≡ 3 * length prepared.now.program + 1) }
     ensures silent { OnErr result (K.written out.new ≡ K.written out.old) }

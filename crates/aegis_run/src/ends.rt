@@ -24,7 +24,8 @@ pub enum End {
     WriteFault,
 }
 
-/// The answer of the program. No answer is `Syntax(SyntaxError::OutOfMemory)`: want of memory is `OutOfMemory` alone.
+/// The answer of the program. Want of memory is `OutOfMemory` alone, and never
+/// `Syntax(SyntaxError::OutOfMemory)`.
 #[derive(Clone, Copy, Debug, PartialEq, Eq)]
 pub enum TopEnd {
     /// A run was started and ended so.

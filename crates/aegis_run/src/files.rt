@@ -24,9 +24,11 @@ pub fn prepare<F: Folder>(
     folder: &mut F,
     names: &RunWords<'_>,
 ) -> Result<Prepared, TopEnd>
-    ensures ready { IfOk result (λ prepared. IsRunOf (F.files folder.old) (names_of names.now) prepared.program) }
+    ensures ready { IfOk result (λ prepared.
+        IsRunOf (F.files folder.old) (names_of names.now) prepared.program) }
     ensures refused { IfErr result (λ end.
-        CauseOfRun (names_of names.now) (F.files folder.old) (F.faults folder.old) (F.faults folder.new) end) }
+        CauseOfRun (names_of names.now) (F.files folder.old)
+        (F.faults folder.old) (F.faults folder.new) end) }
     ensures no_run { IfErr result IsRefusal }
     ensures kept { F.files folder.new ≡ F.files folder.old }
 {
@@ -57,7 +59,8 @@ fn parse(alloc: Global, text: &[u8]) -> Result<Program, TopEnd>
 fn open<F: Folder>(alloc: Global, folder: &mut F, name: &str, file: File) -> Result<Vec<u8>, TopEnd>
     ensures read { IfOk result (λ text. IsRead (F.files folder.old) name.now file text.items) }
     ensures refused { IfErr result (λ end.
-        OpenCause (F.files folder.old) name.now file (F.faults folder.old) (F.faults folder.new) end) }
+        OpenCause (F.files folder.old) name.now file
+        (F.faults folder.old) (F.faults folder.new) end) }
     ensures kept { F.files folder.new ≡ F.files folder.old }
     ensures counted { F.faults folder.old ≤ F.faults folder.new }
 {

@@ -1,4 +1,5 @@
-//! The run: the processor steps compiled code until its exit, and each released byte goes to the sink at once.
+//! The run: the processor steps compiled code until its exit, and each released byte goes to the
+//! sink at once.
 ghost use Rattle.std.specs.Prelude.{◌≡◌, ℕ, ◌≤◌, List, None, length, IfOk, OnErr};
 ghost use Rattle.aegis_edge.specs.Faults.{Rose};
 ghost use Rattle.aegis_run.specs.Code.{reset, RunsTo, Delivers};
@@ -27,9 +28,11 @@ pub fn run<K: Sink>(
     requires short { length code.now ≤ MAX_CODE_WORDS }
     requires straight { (bytes : List ℕ) × RunsTo code.now (length code.now) reset bytes }
 
-    ensures delivered { IfOk result (λ ran. (bytes : List ℕ) → RunsTo code.now (length code.now) reset bytes
+    ensures delivered { IfOk result (λ ran. (bytes : List ℕ)
+        → RunsTo code.now (length code.now) reset bytes
         → Delivers ran.end (K.written out.old) (K.written out.new) bytes) }
-    ensures fault { IfOk result (λ ran. ran.end ≡ End.WriteFault → Rose (K.faults out.old) (K.faults out.new)) }
+    ensures fault { IfOk result (λ ran. ran.end ≡ End.WriteFault
+        → Rose (K.faults out.old) (K.faults out.new)) }
     ensures retired { IfOk result (λ ran. ran.end ≡ End.Ended → ran.retired ≡ length code.now) }
     ensures silent { OnErr result (K.written out.new ≡ K.written out.old) }
 {

@@ -36,7 +36,8 @@ fn main(rt: HostRuntime) -> ExitCode {
     ExitCode::from(finish.status)
 }
 
-/// The words behind the program's name, and none where one of them is not UTF-8: no command has such a word.
+/// The words behind the program's name, and none where one of them is not UTF-8: no command has
+/// such a word.
 fn words_behind(rt: &(impl Env + AllocGlobal)) -> Result<Vec<String>, AllocError> {
     match env::args(rt) {
         Ok(all) => all.skip(1).collect(rt.alloc()),

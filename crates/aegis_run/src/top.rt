@@ -14,8 +14,9 @@ use aegis_edge::{Folder, Sink};
 use c_reader::SyntaxError;
 use std::alloc::Global;
 
-/// Does what the words behind the program's name say: `run SOURCE SCRIPT INPUT FUEL KEY NONCE` reads the three files
-/// from the folder, compiles the source and runs it. Released bytes go to `out`, and one line on the end to `notes`.
+/// Does what the words behind the program's name say: `run SOURCE SCRIPT INPUT FUEL KEY NONCE` reads
+/// the three files from the folder, compiles the source and runs it. Released bytes go to `out`, and
+/// one line on the end to `notes`.
 pub fn aegis<F: Folder, K: Sink, N: Sink>(
     alloc: Global,
     words: &[String],
@@ -30,27 +31,35 @@ pub fn aegis<F: Folder, K: Sink, N: Sink>(
     ensures usage { (result.end ≡ TopEnd.Usage) ↔ (names_in words.now ≡ None) }
 
     // A file that the words name is missing, is too long, or failed.
-    ensures no_file { (file : File) → result.end ≡ TopEnd.NoFile file → IfSome (names_in words.now)
-        (λ names. Lacks names (F.files folder.old) file (F.faults folder.old) (F.faults folder.new)) }
-    ensures too_long { (file : File) → result.end ≡ TopEnd.TooLong file → IfSome (names_in words.now)
-        (λ names. Exceeds names (F.files folder.old) file (F.faults folder.old) (F.faults folder.new)) }
-    ensures read_fault { result.end ≡ TopEnd.ReadFault → Rose (F.faults folder.old) (F.faults folder.new) }
+    ensures no_file { (file : File) → result.end ≡ TopEnd.NoFile file
+        → IfSome (names_in words.now) (λ names. Lacks names (F.files folder.old) file
+        (F.faults folder.old) (F.faults folder.new)) }
+    ensures too_long { (file : File) → result.end ≡ TopEnd.TooLong file
+        → IfSome (names_in words.now) (λ names. Exceeds names (F.files folder.old) file
+        (F.faults folder.old) (F.faults folder.new)) }
+    ensures read_fault { result.end ≡ TopEnd.ReadFault
+        → Rose (F.faults folder.old) (F.faults folder.new) }
 
     // The source is not of the form that is read, and the place is exact.
     ensures not_yet { (at : ℕ) → result.end ≡ TopEnd.Syntax (SyntaxError.NotYet at)
         → IfSome (names_in words.now) (λ names. IsRefused (F.files folder.old) names at) }
-    ensures not_yet_where { IfSome (names_in words.now) (λ names. (at : ℕ) → AreTold (F.files folder.old)
-        → IsRefused (F.files folder.old) names at → RefusesSource result.end) }
+    ensures not_yet_where { IfSome (names_in words.now) (λ names. (at : ℕ)
+        → AreTold (F.files folder.old) → IsRefused (F.files folder.old) names at
+        → RefusesSource result.end) }
 
     // The script holds a byte.
     ensures not_yet_script { (file : File) → result.end ≡ TopEnd.NotYet file
-        → IfSome (names_in words.now) (λ names. (file ≡ File.Script) × HoldsScript (F.files folder.old) names) }
-    ensures not_yet_script_where { IfSome (names_in words.now) (λ names. AreTold (F.files folder.old)
-        → HoldsScript (F.files folder.old) names → RefusesScript result.end) }
+        → IfSome (names_in words.now) (λ names.
+        (file ≡ File.Script) × HoldsScript (F.files folder.old) names) }
+    ensures not_yet_script_where { IfSome (names_in words.now) (λ names.
+        AreTold (F.files folder.old) → HoldsScript (F.files folder.old) names
+        → RefusesScript result.end) }
 
-    // A run is started exactly where the files were read and allow it; want of memory has its own answer alone.
-    ensures run_where { IfSome (names_in words.now) (λ names. (literals : List ℕ) → AreTold (F.files folder.old)
-        → IsRunOf (F.files folder.old) names literals → StartsRun result.end) }
+    // A run is started exactly where the files were read and allow it. Want of memory has its own
+    // answer alone.
+    ensures run_where { IfSome (names_in words.now) (λ names. (literals : List ℕ)
+        → AreTold (F.files folder.old) → IsRunOf (F.files folder.old) names literals
+        → StartsRun result.end) }
     ensures memory_alone { result.end ≢ TopEnd.Syntax SyntaxError.OutOfMemory }
 
     // The files are as before.
@@ -58,13 +67,17 @@ pub fn aegis<F: Folder, K: Sink, N: Sink>(
 
     // What out took: all that the source releases, or a front of it; at each other answer nothing.
     ensures ended { result.end ≡ TopEnd.Run End.Ended
-        → IfSome (names_in words.now) (λ names. (literals : List ℕ) × IsRunOf (F.files folder.old) names literals
+        → IfSome (names_in words.now) (λ names. (literals : List ℕ)
+        × IsRunOf (F.files folder.old) names literals
         × Appends (K.written out.old) (K.written out.new) (released literals)) }
     ensures cut_short { result.end ≡ TopEnd.Run End.WriteFault
-        → IfSome (names_in words.now) (λ names. (literals : List ℕ) × IsRunOf (F.files folder.old) names literals
+        → IfSome (names_in words.now) (λ names. (literals : List ℕ)
+        × IsRunOf (F.files folder.old) names literals
         × AppendsFront (K.written out.old) (K.written out.new) (released literals)) }
-    ensures write_fault { result.end ≡ TopEnd.Run End.WriteFault → Rose (K.faults out.old) (K.faults out.new) }
-    ensures silent { ((end : End) → result.end ≢ TopEnd.Run end) → K.written out.new ≡ K.written out.old }
+    ensures write_fault { result.end ≡ TopEnd.Run End.WriteFault
+        → Rose (K.faults out.old) (K.faults out.new) }
+    ensures silent { ((end : End) → result.end ≢ TopEnd.Run end)
+        → K.written out.new ≡ K.written out.old }
 
     // What notes took: the line of the answer, or a front of it where `noted` is false.
     ensures line { IsTrue result.noted → (retired : ℕ)

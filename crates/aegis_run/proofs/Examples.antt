@@ -1,0 +1,71 @@
+-- The definitions on worked examples.
+use Rattle.std.proofs.Common.{◌≡◌, ℕ, true, false, List, [], ◌∷◌, ◌++◌, None, Some, refl, ap, arith}
+use Rattle.std.specs.Prelude.{codes}
+use Rattle.std.proofs.lemmas.Fmt.{decimal_digit}
+use Rattle.aegis_run.specs.declared.ends.File.TheVariants.{Script}
+use Rattle.aegis_run.specs.declared.ends.End.TheVariants.{Ended}
+use Rattle.aegis_run.specs.declared.ends.TopEnd.TheVariants.{Run, Usage, NotYet}
+use Rattle.aegis_run.specs.Answer.{released}
+use Rattle.aegis_run.specs.Code.{code_of}
+use Rattle.aegis_run.specs.Report.{line_of, status_of}
+use Rattle.aegis_run.specs.Words.{RunNames, is_fuel, run_row}
+
+-- the words of a run with this fuel and this key
+run_with : List ℕ → List ℕ → List (List ℕ)
+run_with fuel key = codes "run" ∷ codes "hi.c" ∷ codes "s" ∷ codes "i" ∷ fuel ∷ key ∷ codes "0000000000000001" ∷ []
+
+-- its three files
+files : RunNames
+files = record { source = codes "hi.c"; script = codes "s"; input = codes "i" }
+
+ordinary : run_row (run_with (codes "8000000") (codes "000102030405060708090a0b0c0d0e0f")) ≡ Some files
+unfolding run_with files
+ordinary = refl
+
+capital : run_row (run_with (codes "1") (codes "000102030405060708090A0B0C0D0E0F")) ≡ Some files
+unfolding run_with files
+capital = refl
+
+short_key : run_row (run_with (codes "1") (codes "000102030405060708090a0b0c0d0e0")) ≡ None
+unfolding run_with
+short_key = refl
+
+no_key : run_row (run_with (codes "1") (codes "000102030405060708090a0b0c0d0e0g")) ≡ None
+unfolding run_with
+no_key = refl
+
+no_words : run_row [] ≡ None
+no_words = refl
+
+greatest_fuel : is_fuel (codes "33554432") ≡ true
+greatest_fuel = refl
+
+zeros_before : is_fuel (codes "0000000001") ≡ true
+zeros_before = refl
+
+too_much_fuel : is_fuel (codes "33554433") ≡ false
+too_much_fuel = refl
+
+too_many_digits : is_fuel (codes "00000000001") ≡ false
+too_many_digits = refl
+
+signed_fuel : is_fuel (codes "+1") ≡ false
+signed_fuel = refl
+
+no_fuel : is_fuel [] ≡ false
+no_fuel = refl
+
+low_byte : released (328 ∷ []) ≡ 72 ∷ []
+low_byte = refl
+
+code_of_one : code_of (65608 ∷ []) ≡ 0x18600001 ∷ 0xa8630048 ∷ 0x70000006 ∷ 0x70000001 ∷ []
+code_of_one = refl
+
+line_of_run : line_of (Run Ended) 7 ≡ codes "ended retired 7 events 0\n"
+line_of_run = ap (λ digits. codes "ended retired " ++ digits ++ codes " events 0\n") (decimal_digit 7 (omega arith))
+
+line_of_script : line_of (NotYet Script) 0 ≡ codes "not yet script\n"
+line_of_script = refl
+
+unwritten : status_of Usage false ≡ 5
+unwritten = refl
