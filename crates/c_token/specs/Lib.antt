@@ -1,0 +1,5 @@
+pub mod Words
+pub mod Signs
+pub mod Lexemes
+pub mod Spelling
+pub mod Tokens

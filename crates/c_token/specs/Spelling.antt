@@ -1,0 +1,64 @@
+-- What spells a token, byte by byte (ISO/IEC 9899, sections 6.4.2.1 and 6.4.4.1).
+use Rattle.std.specs.Prelude.{ℕ, ◌+◌, ◌*◌, Bool, true, false, ◌&&◌, ◌||◌, List, [], ◌∷◌, length, drop, Option, Some, None, option_map, is_some, nat_eq, nat_lt, ◌==◌, if◌then◌else◌, codes, fold, take_while}
+use Rattle.std.specs.List.{list_all, prefix_len, starts_with}
+use Rattle.std.specs.Char.{is_ascii_alphabetic, is_ascii_alphanumeric, is_ascii_digit, is_ascii_hexdigit, digit_value}
+use Rattle.c_token.specs.declared.words.Word.{Word}
+use Rattle.c_token.specs.Lexemes.{Lexeme, name, number, word, sign}
+use Rattle.c_token.specs.Words.{word_of}
+use Rattle.c_token.specs.Signs.{sign_of}
+
+-- a letter or `_`, which is 95
+abbrev pub is_name_start : ℕ → Bool
+is_name_start b = is_ascii_alphabetic b || (b == 95)
+
+-- a letter, a digit or `_`
+abbrev pub is_name_byte : ℕ → Bool
+is_name_byte b = is_ascii_alphanumeric b || (b == 95)
+
+-- a letter or `_`, then letters, digits and `_`
+abbrev pub is_name : List ℕ → Bool
+is_name [] = false
+is_name (b ∷ bs) = is_name_start b && list_all is_name_byte bs
+
+-- nothing, or `u` or `U`, which are 117 and 85
+abbrev pub is_suffix : List ℕ → Bool
+is_suffix [] = true
+is_suffix (b ∷ []) = (b == 117) || (b == 85)
+is_suffix (b ∷ c ∷ bs) = false
+
+-- at least one digit, then an optional suffix
+abbrev pub has_digits : (ℕ → Bool) → List ℕ → Bool
+has_digits is_digit bytes = let count = prefix_len is_digit bytes in nat_lt 0 count && is_suffix (drop count bytes)
+
+abbrev pub is_decimal : List ℕ → Bool
+is_decimal bytes = has_digits is_ascii_digit bytes
+
+-- `0x` or `0X`, then hexadecimal digits
+abbrev pub is_hexadecimal : List ℕ → Bool
+is_hexadecimal bytes = (starts_with nat_eq bytes (codes "0x") || starts_with nat_eq bytes (codes "0X")) && has_digits is_ascii_hexdigit (drop 2 bytes)
+
+-- what digits count in a base
+abbrev pub value_of : ℕ → List ℕ → ℕ
+value_of base digits = fold (λ value digit. base * value + digit_value digit) 0 digits
+
+-- unsigned with a suffix behind the digits, or above 2147483647
+abbrev pub number_of : ℕ → (ℕ → Bool) → List ℕ → Lexeme
+number_of base is_digit bytes =
+    let value = value_of base (take_while is_digit bytes) in
+    number value (nat_lt (prefix_len is_digit bytes) (length bytes) || nat_lt 2147483647 value)
+
+-- a word where the bytes spell one, and else a name
+abbrev pub word_or_name : Option Word → List ℕ → Lexeme
+word_or_name (Some w) bytes = word w
+word_or_name None bytes = name bytes
+
+-- the token that these bytes spell, all of them, if they spell one
+abbrev pub spelled : List ℕ → Option Lexeme
+spelled bytes =
+    if is_name bytes then Some (word_or_name (word_of bytes) bytes)
+    else (if is_decimal bytes then Some (number_of 10 is_ascii_digit bytes)
+    else (if is_hexadecimal bytes then Some (number_of 16 is_ascii_hexdigit (drop 2 bytes))
+    else option_map (λ s. sign s) (sign_of bytes)))
+
+abbrev pub is_token : List ℕ → Bool
+is_token bytes = is_some (spelled bytes)

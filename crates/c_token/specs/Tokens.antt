@@ -1,0 +1,96 @@
+-- The tokens of a text: blanks and comments aside, the longest token each time (ISO/IEC 9899, section 6.4, paragraph 4).
+-- A text is its bytes, and places are counted from 0.
+use Rattle.std.specs.Prelude.{ℕ, zero, suc, ◌+◌, ◌-◌, Bool, false, ◌||◌, ◌&&◌, List, [], ◌∷◌, length, take, drop, Option, Some, None, option_map, Result, Ok, Err, nat_eq, nat_lt, ◌==◌, if◌then◌else◌, codes}
+use Rattle.std.specs.List.{starts_with, position_or_len}
+use Rattle.std.specs.Char.{is_ascii_digit}
+use Rattle.c_token.specs.declared.kinds.TokenError.{TokenError}
+use Rattle.c_token.specs.declared.kinds.TokenError.TheVariants.{BadByte, OpenComment, LongName, BadNumber, BigNumber}
+use Rattle.c_token.specs.Lexemes.{Lexeme, name, number, word, sign, Placed}
+use Rattle.c_token.specs.Spelling.{is_name_byte, spelled, is_token}
+
+-- space, tab, carriage return and line feed
+abbrev pub is_blank : ℕ → Bool
+is_blank b = (b == 32) || ((b == 9) || ((b == 13) || (b == 10)))
+
+-- the first byte passes
+abbrev pub begins_with : (ℕ → Bool) → List ℕ → Bool
+begins_with passes [] = false
+begins_with passes (b ∷ bs) = passes b
+
+-- the greatest number, up to this one, of first bytes that pass; 0 where none do
+abbrev pub longest_upto : (List ℕ → Bool) → List ℕ → ℕ → ℕ
+longest_upto passes text zero = 0
+longest_upto passes text (suc n) = if passes (take (suc n) text) then suc n else longest_upto passes text n
+
+abbrev pub longest : (List ℕ → Bool) → List ℕ → ℕ
+longest passes text = longest_upto passes text (length text)
+
+-- how many bytes up to the end of the first `*/`, where there is one
+abbrev pub close_of : List ℕ → Option ℕ
+close_of [] = None
+close_of (b ∷ bs) = if starts_with nat_eq (b ∷ bs) (codes "*/") then Some 2 else option_map (λ n. n + 1) (close_of bs)
+
+-- 0 and a decimal digit
+abbrev pub has_leading_zero : List ℕ → Bool
+has_leading_zero [] = false
+has_leading_zero (b ∷ bs) = (b == 48) && begins_with is_ascii_digit bs
+
+-- What a text begins with: how many bytes it takes, and its token, none for a blank or a comment.
+pub record Front : Type 0 where
+  pub lexeme : Option Lexeme
+  pub len : ℕ
+
+abbrev pub gap : ℕ → Front
+gap n = record { lexeme = None; len = n }
+
+abbrev pub token : Lexeme → ℕ → Front
+token lexeme n = record { lexeme = Some lexeme; len = n }
+
+-- a comment from `/*` on, which ends at the first `*/` behind these two bytes
+unfoldable pub block_comment : ℕ → Option ℕ → Result Front TokenError
+block_comment at None = Err (OpenComment at)
+block_comment at (Some n) = Ok (gap (2 + n))
+
+-- a token at this place, spelled by these bytes, with the rest of the text behind it
+unfoldable pub judged : ℕ → List ℕ → List ℕ → Option Lexeme → Result Front TokenError
+judged at bytes rest None = Err (BadByte at)
+judged at bytes rest (Some (name text)) =
+    if nat_lt 31 (length text) then Err (LongName at) else Ok (token (name text) (length bytes))
+judged at bytes rest (Some (number value unsigned)) =
+    if has_leading_zero bytes || begins_with is_name_byte rest then Err (BadNumber at)
+    else (if nat_lt 4294967295 value then Err (BigNumber at) else Ok (token (number value unsigned) (length bytes)))
+judged at bytes rest (Some (word w)) = Ok (token (word w) (length bytes))
+judged at bytes rest (Some (sign s)) = Ok (token (sign s) (length bytes))
+
+-- the token of this many bytes
+unfoldable pub token_of_len : ℕ → List ℕ → ℕ → Result Front TokenError
+token_of_len at text n = judged at (take n text) (drop n text) (spelled (take n text))
+
+-- what the text from this place on begins with: a blank, a comment, or the longest token; or its fault
+unfoldable pub front_at : ℕ → List ℕ → Result Front TokenError
+front_at at text =
+    if begins_with is_blank text then Ok (gap 1)
+    else (if starts_with nat_eq text (codes "/*") then block_comment at (close_of (drop 2 text))
+    else (if starts_with nat_eq text (codes "//") then Ok (gap (position_or_len (λ b. b == 10) text))
+    else token_of_len at text (longest is_token text)))
+
+-- a token stands before those of the rest, a blank or a comment before none
+unfoldable pub put_before : ℕ → Option Lexeme → Result (List Placed) TokenError → Result (List Placed) TokenError
+put_before at lexeme (Err error) = Err error
+put_before at None (Ok placed) = Ok placed
+put_before at (Some lexeme) (Ok placed) = Ok (record { lexeme = lexeme; at = at } ∷ placed)
+
+-- the front, and behind its first byte what the rest gives, of which this many bytes are still the front's
+unfoldable pub front_then : ℕ → (ℕ → Result (List Placed) TokenError) → Result Front TokenError → Result (List Placed) TokenError
+front_then at rest (Err error) = Err error
+front_then at rest (Ok front) = put_before at front.lexeme (rest (front.len - 1))
+
+-- The tokens of the text from the place `at` on, of which the first bytes, as many as `left`, belong to what stands before it.
+unfoldable pub tokens_from : ℕ → ℕ → List ℕ → Result (List Placed) TokenError
+tokens_from at left [] = Ok []
+tokens_from at (suc left) (b ∷ bs) = tokens_from (at + 1) left bs
+tokens_from at zero (b ∷ bs) = front_then at (λ left. tokens_from (at + 1) left bs) (front_at at (b ∷ bs))
+
+-- the tokens of a text, or its first fault
+unfoldable pub tokens_of : List ℕ → Result (List Placed) TokenError
+tokens_of text = tokens_from 0 0 text
