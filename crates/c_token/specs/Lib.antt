@@ -3,3 +3,4 @@ pub mod Signs
 pub mod Lexemes
 pub mod Spelling
 pub mod Tokens
+pub mod Fronts

@@ -1,7 +1,8 @@
 -- What spells a token, byte by byte (ISO/IEC 9899, sections 6.4.2.1 and 6.4.4.1).
-use Rattle.std.specs.Prelude.{ℕ, ◌+◌, ◌*◌, Bool, true, false, ◌&&◌, ◌||◌, List, [], ◌∷◌, length, drop, Option, Some, None, option_map, is_some, nat_eq, nat_lt, ◌==◌, if◌then◌else◌, codes, fold, take_while}
+use Rattle.std.specs.Prelude.{ℕ, Bool, true, false, ◌&&◌, ◌||◌, List, [], ◌∷◌, length, drop, Option, Some, None, option_map, is_some, nat_eq, nat_lt, ◌==◌, if◌then◌else◌, codes, take_while}
 use Rattle.std.specs.List.{list_all, prefix_len, starts_with}
-use Rattle.std.specs.Char.{is_ascii_alphabetic, is_ascii_alphanumeric, is_ascii_digit, is_ascii_hexdigit, digit_value}
+use Rattle.std.specs.Char.{is_ascii_alphabetic, is_ascii_alphanumeric, is_ascii_digit, is_ascii_hexdigit}
+use Rattle.std.specs.Str.Parse.{digits_value}
 use Rattle.c_token.specs.declared.words.Word.{Word}
 use Rattle.c_token.specs.Lexemes.{Lexeme, name, number, word, sign}
 use Rattle.c_token.specs.Words.{word_of}
@@ -20,10 +21,14 @@ abbrev pub is_name : List ℕ → Bool
 is_name [] = false
 is_name (b ∷ bs) = is_name_start b && list_all is_name_byte bs
 
--- nothing, or `u` or `U`, which are 117 and 85
+-- `u` or `U`, which are 117 and 85
+abbrev pub is_suffix_byte : ℕ → Bool
+is_suffix_byte b = (b == 117) || (b == 85)
+
+-- nothing, or one such byte
 abbrev pub is_suffix : List ℕ → Bool
 is_suffix [] = true
-is_suffix (b ∷ []) = (b == 117) || (b == 85)
+is_suffix (b ∷ []) = is_suffix_byte b
 is_suffix (b ∷ c ∷ bs) = false
 
 -- at least one digit, then an optional suffix
@@ -33,18 +38,18 @@ has_digits is_digit bytes = let count = prefix_len is_digit bytes in nat_lt 0 co
 abbrev pub is_decimal : List ℕ → Bool
 is_decimal bytes = has_digits is_ascii_digit bytes
 
--- `0x` or `0X`, then hexadecimal digits
-abbrev pub is_hexadecimal : List ℕ → Bool
-is_hexadecimal bytes = (starts_with nat_eq bytes (codes "0x") || starts_with nat_eq bytes (codes "0X")) && has_digits is_ascii_hexdigit (drop 2 bytes)
+-- `0x` or `0X`
+abbrev pub has_hexadecimal_prefix : List ℕ → Bool
+has_hexadecimal_prefix bytes = starts_with nat_eq bytes (codes "0x") || starts_with nat_eq bytes (codes "0X")
 
--- what digits count in a base
-abbrev pub value_of : ℕ → List ℕ → ℕ
-value_of base digits = fold (λ value digit. base * value + digit_value digit) 0 digits
+-- that, and then hexadecimal digits
+abbrev pub is_hexadecimal : List ℕ → Bool
+is_hexadecimal bytes = has_hexadecimal_prefix bytes && has_digits is_ascii_hexdigit (drop 2 bytes)
 
 -- unsigned with a suffix behind the digits, or above 2147483647
 abbrev pub number_of : ℕ → (ℕ → Bool) → List ℕ → Lexeme
 number_of base is_digit bytes =
-    let value = value_of base (take_while is_digit bytes) in
+    let value = digits_value base (take_while is_digit bytes) in
     number value (nat_lt (prefix_len is_digit bytes) (length bytes) || nat_lt 2147483647 value)
 
 -- a word where the bytes spell one, and else a name

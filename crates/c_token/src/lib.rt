@@ -1,10 +1,16 @@
 //! The tokens of the source language, a profile of ISO C (ISO/IEC 9899, section 6.4).
 #![tactic(auto)]
 
+mod bytes;
+mod front;
 mod kinds;
+mod scanner;
 mod signs;
+#[cfg(test)]
+mod tests;
 mod words;
 
 pub use kinds::{Kind, Token, TokenError};
-pub use signs::{Sign, sign_of};
-pub use words::{Word, word_of};
+pub use scanner::tokens;
+pub use signs::Sign;
+pub use words::Word;
