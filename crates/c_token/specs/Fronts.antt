@@ -1,13 +1,14 @@
 -- What the code's reading of a front means, and the parts of a number that it reads.
-use Rattle.std.specs.Prelude.{◌≡◌, ℕ, ◌+◌, ◌-◌, Bool, ◌&&◌, ◌||◌, List, take, drop, Result, Ok, Err, Some, option_map, nat_lt, if◌then◌else◌}
+use Rattle.std.specs.Prelude.{◌≡◌, ℕ, ◌+◌, ◌-◌, Bool, ◌&&◌, List, take, drop, Result, Ok, Err, Some, option_map, nat_lt, if◌then◌else◌}
 use Rattle.std.specs.Char.{is_ascii_hexdigit}
 use Rattle.std.specs.Str.Parse.{digits_value}
 use Rattle.c_token.specs.declared.front.Front.{Front as Found}
 use Rattle.c_token.specs.declared.kinds.TokenError.{TokenError}
-use Rattle.c_token.specs.Lexemes.{number, lexeme_of}
-use Rattle.c_token.specs.Spelling.{is_suffix_byte, has_hexadecimal_prefix}
+use Rattle.c_token.specs.Lexemes.{lexeme_of}
+use Rattle.c_token.specs.Spelling.{is_suffix_byte, has_hexadecimal_prefix, number_with}
 use Rattle.c_token.specs.Tokens.{Front, begins_with, judged}
 
+-- what was found, as the definition of tokens has it
 abbrev pub front_of : Found → Front
 front_of found = record { lexeme = option_map lexeme_of found.kind; len = found.len }
 
@@ -33,4 +34,4 @@ unfoldable pub number_at : ℕ → List ℕ → ℕ → ℕ → ℕ → Result F
 number_at at text base start end =
     let len = number_end text end in
     let value = digits_value base (take (end - start) (drop start text)) in
-    judged at (take len text) (drop len text) (Some (number value (nat_lt end len || nat_lt 2147483647 value)))
+    judged at (take len text) (drop len text) (Some (number_with value (nat_lt end len)))

@@ -18,14 +18,17 @@ pub record Placed : Type 0 where
   pub lexeme : Lexeme
   pub at : ℕ
 
+-- a kind, with the bytes of its name
 abbrev pub lexeme_of : Kind → Lexeme
 lexeme_of (kinds.Name text) = name text.bytes
 lexeme_of (kinds.Number value unsigned) = number value unsigned
 lexeme_of (kinds.Word w) = word w
 lexeme_of (kinds.Sign s) = sign s
 
+-- a token, seen so
 abbrev pub placed_of : Token → Placed
 placed_of token = record { lexeme = lexeme_of token.kind; at = token.at }
 
+-- tokens in a row
 abbrev pub placed_all : List Token → List Placed
 placed_all tokens = map placed_of tokens

@@ -1,4 +1,4 @@
--- What spells a token, byte by byte (ISO/IEC 9899, sections 6.4.2.1 and 6.4.4.1).
+-- What spells a token, byte by byte (ISO/IEC 9899, section 6.4).
 use Rattle.std.specs.Prelude.{ℕ, Bool, true, false, ◌&&◌, ◌||◌, List, [], ◌∷◌, length, drop, Option, Some, None, option_map, is_some, nat_eq, nat_lt, ◌==◌, if◌then◌else◌, codes, take_while}
 use Rattle.std.specs.List.{list_all, prefix_len, starts_with}
 use Rattle.std.specs.Char.{is_ascii_alphabetic, is_ascii_alphanumeric, is_ascii_digit, is_ascii_hexdigit}
@@ -16,7 +16,7 @@ is_name_start b = is_ascii_alphabetic b || (b == 95)
 abbrev pub is_name_byte : ℕ → Bool
 is_name_byte b = is_ascii_alphanumeric b || (b == 95)
 
--- a letter or `_`, then letters, digits and `_`
+-- A name is a letter or `_`, then letters, digits and `_` (6.4.2.1).
 abbrev pub is_name : List ℕ → Bool
 is_name [] = false
 is_name (b ∷ bs) = is_name_start b && list_all is_name_byte bs
@@ -31,10 +31,11 @@ is_suffix [] = true
 is_suffix (b ∷ []) = is_suffix_byte b
 is_suffix (b ∷ c ∷ bs) = false
 
--- at least one digit, then an optional suffix
+-- at least one digit, then an optional suffix (6.4.4.1)
 abbrev pub has_digits : (ℕ → Bool) → List ℕ → Bool
 has_digits is_digit bytes = let count = prefix_len is_digit bytes in nat_lt 0 count && is_suffix (drop count bytes)
 
+-- a decimal number
 abbrev pub is_decimal : List ℕ → Bool
 is_decimal bytes = has_digits is_ascii_digit bytes
 
@@ -42,22 +43,25 @@ is_decimal bytes = has_digits is_ascii_digit bytes
 abbrev pub has_hexadecimal_prefix : List ℕ → Bool
 has_hexadecimal_prefix bytes = starts_with nat_eq bytes (codes "0x") || starts_with nat_eq bytes (codes "0X")
 
--- that, and then hexadecimal digits
+-- A hexadecimal number has this prefix, and then such digits.
 abbrev pub is_hexadecimal : List ℕ → Bool
 is_hexadecimal bytes = has_hexadecimal_prefix bytes && has_digits is_ascii_hexdigit (drop 2 bytes)
 
--- unsigned with a suffix behind the digits, or above 2147483647
+-- A number is unsigned where it has a suffix or is above 2147483647, and else an int.
+abbrev pub number_with : ℕ → Bool → Lexeme
+number_with value suffixed = number value (suffixed || nat_lt 2147483647 value)
+
+-- the number that these digits and an optional suffix spell
 abbrev pub number_of : ℕ → (ℕ → Bool) → List ℕ → Lexeme
 number_of base is_digit bytes =
-    let value = digits_value base (take_while is_digit bytes) in
-    number value (nat_lt (prefix_len is_digit bytes) (length bytes) || nat_lt 2147483647 value)
+    number_with (digits_value base (take_while is_digit bytes)) (nat_lt (prefix_len is_digit bytes) (length bytes))
 
--- a word where the bytes spell one, and else a name
+-- a word where the bytes spell one (6.4.1), and else a name
 abbrev pub word_or_name : Option Word → List ℕ → Lexeme
 word_or_name (Some w) bytes = word w
 word_or_name None bytes = name bytes
 
--- the token that these bytes spell, all of them, if they spell one
+-- the token that these bytes spell, all of them, if they spell one: a word or a name, a number, or a sign (6.4.6)
 abbrev pub spelled : List ℕ → Option Lexeme
 spelled bytes =
     if is_name bytes then Some (word_or_name (word_of bytes) bytes)
@@ -65,5 +69,6 @@ spelled bytes =
     else (if is_hexadecimal bytes then Some (number_of 16 is_ascii_hexdigit (drop 2 bytes))
     else option_map (λ s. sign s) (sign_of bytes)))
 
+-- whether they do
 abbrev pub is_token : List ℕ → Bool
 is_token bytes = is_some (spelled bytes)

@@ -17,11 +17,12 @@ abbrev pub begins_with : (ℕ → Bool) → List ℕ → Bool
 begins_with passes [] = false
 begins_with passes (b ∷ bs) = passes b
 
--- the greatest number, up to this one, of first bytes that pass; 0 where none do
+-- the greatest n, up to this one, where the first n bytes pass; 0 where none do
 abbrev pub longest_upto : (List ℕ → Bool) → List ℕ → ℕ → ℕ
 longest_upto passes text zero = 0
 longest_upto passes text (suc n) = if passes (take (suc n) text) then suc n else longest_upto passes text n
 
+-- the same, up to the whole text
 abbrev pub longest : (List ℕ → Bool) → List ℕ → ℕ
 longest passes text = longest_upto passes text (length text)
 
@@ -40,18 +41,20 @@ pub record Front : Type 0 where
   pub lexeme : Option Lexeme
   pub len : ℕ
 
+-- a blank or a comment
 abbrev pub gap : ℕ → Front
 gap n = record { lexeme = None; len = n }
 
+-- a token
 abbrev pub token : Lexeme → ℕ → Front
 token lexeme n = record { lexeme = Some lexeme; len = n }
 
--- a comment from `/*` on, which ends at the first `*/` behind these two bytes
+-- A comment from `/*` on ends at the first `*/` behind these two bytes (6.4.9).
 unfoldable pub block_comment : ℕ → Option ℕ → Result Front TokenError
 block_comment at None = Err (OpenComment at)
 block_comment at (Some n) = Ok (gap (2 + n))
 
--- a token at this place, spelled by these bytes, with the rest of the text behind it
+-- A token at this place, spelled by these bytes, with the rest of the text behind it, or its fault.
 unfoldable pub judged : ℕ → List ℕ → List ℕ → Option Lexeme → Result Front TokenError
 judged at bytes rest None = Err (BadByte at)
 judged at bytes rest (Some (name text)) =
@@ -62,7 +65,7 @@ judged at bytes rest (Some (number value unsigned)) =
 judged at bytes rest (Some (word w)) = Ok (token (word w) (length bytes))
 judged at bytes rest (Some (sign s)) = Ok (token (sign s) (length bytes))
 
--- the token of this many bytes
+-- the token that this many first bytes spell
 unfoldable pub token_of_len : ℕ → List ℕ → ℕ → Result Front TokenError
 token_of_len at text n = judged at (take n text) (drop n text) (spelled (take n text))
 

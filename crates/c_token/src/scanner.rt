@@ -1,5 +1,5 @@
 //! The tokens of a text.
-ghost use Rattle.std.specs.Prelude.{◌≡◌, ◌≢◌, ◌≤◌, length, Ok, Err, IfOk, IfErr};
+ghost use Rattle.std.specs.Prelude.{◌≡◌, ◌≢◌, ◌≤◌, length, vec_len, Ok, Err, IfOk, IfErr};
 ghost use Rattle.c_token.specs.Lexemes.{placed_all};
 ghost use Rattle.c_token.specs.Tokens.{tokens_of};
 
@@ -16,6 +16,8 @@ pub fn tokens(alloc: Global, text: &[u8]) -> Result<Vec<Token>, TokenError>
     ensures tokens { IfOk result (λ tokens. tokens_of text.now ≡ Ok (placed_all tokens.items)) }
     ensures fault { IfErr result
         (λ error. error ≢ TokenError.OutOfMemory → tokens_of text.now ≡ Err error) }
+    // No token is empty.
+    ensures count { IfOk result (λ tokens. vec_len tokens ≤ length text.now) }
 {
     let mut tokens = Vec::new(alloc);
     let mut at: usize = 0;

@@ -1,5 +1,5 @@
 //! The signs of the source language (ISO/IEC 9899, section 6.4.6).
-ghost use Rattle.std.specs.Prelude.{◌≡◌};
+ghost use Rattle.std.specs.Prelude.{◌≡◌, Some};
 ghost use Rattle.c_token.specs.Signs.{sign_spelling, sign_of};
 
 /// A sign.
@@ -98,9 +98,10 @@ const SIGNS: [Sign; 29] = [
 ];
 
 impl Sign {
-    /// The bytes that spell the sign.
+    /// The text that spells the sign, and no other sign.
     pub fn spelling(self) -> &'static str
-        ensures { result.now ≡ sign_spelling self }
+        ensures spelling { result.now ≡ sign_spelling self }
+        ensures own { sign_of result.now ≡ Some self }
     {
         match self {
             Sign::LeftParenthesis => "(",

@@ -1,5 +1,5 @@
 //! The words of the source language (ISO/IEC 9899, section 6.4.1, and the words of this profile).
-ghost use Rattle.std.specs.Prelude.{◌≡◌};
+ghost use Rattle.std.specs.Prelude.{◌≡◌, Some};
 ghost use Rattle.c_token.specs.Words.{word_spelling, word_of};
 
 /// A word that no name may be.
@@ -68,9 +68,10 @@ const WORDS: [Word; 19] = [
 ];
 
 impl Word {
-    /// The bytes that spell the word.
+    /// The text that spells the word, and no other word.
     pub fn spelling(self) -> &'static str
-        ensures { result.now ≡ word_spelling self }
+        ensures spelling { result.now ≡ word_spelling self }
+        ensures own { word_of result.now ≡ Some self }
     {
         match self {
             Word::Int => "int",

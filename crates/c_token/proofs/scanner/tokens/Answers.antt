@@ -1,4 +1,4 @@
-use Rattle.std.proofs.Common.{◌≤◌, length, drop, sym, ap, ◌∙◌, arith}
+use Rattle.std.proofs.Common.{◌≤◌, length, vec_len, drop, sym, ap, ◌∙◌, arith}
 use Rattle.std.proofs.lemmas.Result.{err_from_is_err_and}
 use Rattle.std.proofs.lemmas.List.{take_rest, map_push, length-drop}
 use Rattle.std.specs.Prelude.{option_map}
@@ -24,6 +24,10 @@ each-preserved c =
     let within : c.in_ok-kind.field-0.len ≤ length (drop c.each.at text) = omega (arith, ap length (take_rest text c.each.at), c.in_ok-kind.ensures.within.1) in
     record {
       within = omega (arith, length-drop c.each.at text);
+      count = elim c.match-kind.branch [
+        | in-Some+in_ok-push w ↦ omega (arith, ap vec_len w.tokens-is, w.in_ok-push.ensures.len, c.in_ok-kind.ensures.within.0)
+        | in_default w ↦ omega (arith, ap vec_len w.tokens-is)
+      ];
       told = elim c.match-kind.branch [
         | in-Some+in_ok-push w ↦
             let one_more = ap (λ v. placed_all v.items) w.tokens-is ∙ ap placed_all w.in_ok-push.ensures.items ∙ map_push placed_of c.each.tokens.items _ in

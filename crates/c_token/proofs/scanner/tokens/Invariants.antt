@@ -1,4 +1,4 @@
-use Rattle.std.proofs.Common.{◌≡◌, ◌-◌, ◌≤◌, length, drop}
+use Rattle.std.proofs.Common.{◌≡◌, ◌-◌, ◌≤◌, length, drop, vec_len}
 use Rattle.c_token.specs.Lexemes.{placed_all}
 use Rattle.c_token.specs.Tokens.{tokens_from}
 use Rattle.c_token.proofs.Scan.{joined}
@@ -8,6 +8,7 @@ use Rattle.c_token.proofs.scanner.tokens.Given as goal
 abbrev pub invariant-each : goal.invariant-each
 invariant-each l = record {
   within : l.at ≤ length l.text;
+  count : vec_len l.tokens ≤ l.at;
   told : joined (placed_all l.tokens.items) (tokens_from l.at 0 (drop l.at l.text)) ≡ tokens_from 0 0 l.text;
 }
 
