@@ -1,0 +1,21 @@
+-- The first level with enough places is the least one.
+use Rattle.std.proofs.Common.{arith}
+use Rattle.regions.specs.Blocks.{data_blocks}
+use Rattle.regions.specs.Tree.{IsHeight, height_of}
+use Rattle.regions.specs.TreeLaws.{IsHeight-height_of, IsHeight-unique}
+use Rattle.regions.proofs.tree.height.Goals as goal
+
+pub loop-positions-smaller : goal.loop-positions-smaller
+loop-positions-smaller c = omega arith
+
+pub returns-clause-value : goal.returns-clause-value
+returns-clause-value c =
+    let blocks = data_blocks c.args.layout.now in
+    let tried = c.loop-positions.invariant in
+    let found : IsHeight blocks c.loop-positions.height = record {
+      positive = tried.positive;
+      at_most = tried.at_most;
+      enough = omega arith;
+      least = λ lower positive enough. grind (arith, tried.few lower);
+    } in
+    IsHeight-unique blocks c.loop-positions.height (height_of blocks) found (IsHeight-height_of blocks c.args.layout.now.data_fits)
