@@ -29,12 +29,12 @@ LiesIn-class_at layout at Logged has = grind (arith, nat_tests)
 
 -- an address of a class with blocks lies in a block that the layout has
 pub HasBlock-LiesIn : (layout : Layout) (at : ℕ) (class : Class) → LiesIn layout class at → HasBlock layout class at
-HasBlock-LiesIn layout at Open lies = tt
-HasBlock-LiesIn layout at Verified lies = omega arith
-HasBlock-LiesIn layout at Private lies = omega arith
-HasBlock-LiesIn layout at Constant lies = omega arith
-HasBlock-LiesIn layout at Code lies = omega arith
-HasBlock-LiesIn layout at Logged lies = omega arith
+HasBlock-LiesIn layout at Open lies = lies.1
+HasBlock-LiesIn layout at Verified lies = record { from = omega arith; block = omega arith }
+HasBlock-LiesIn layout at Private lies = record { from = omega arith; block = omega arith }
+HasBlock-LiesIn layout at Constant lies = record { from = omega arith; block = omega arith }
+HasBlock-LiesIn layout at Code lies = record { from = omega arith; block = omega arith }
+HasBlock-LiesIn layout at Logged lies = record { from = omega arith; block = omega arith }
 
 -- the class of an address is the one in whose range it lies
 pub class_at-ranges : (layout : Layout) (at : ℕ) (found : Option Class) → found ≡ class_at layout at → (class : Class) → (found ≡ Some class) ↔ LiesIn layout class at

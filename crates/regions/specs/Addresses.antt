@@ -80,11 +80,21 @@ log_block_at at = (at - log_start) / block_bytes
 abbrev pub offset_at : ℕ → ℕ
 offset_at at = at % block_bytes
 
--- an address of this class lies in a block that the layout has
+-- the address lies in a data block that the layout has
+pub record IsInData (layout : Layout) (at : ℕ) : Type 0 where
+  pub from : tree_start ≤ at
+  pub block : data_block_at at < data_blocks layout
+
+-- the address lies in a log block that the layout has
+pub record IsInLog (layout : Layout) (at : ℕ) : Type 0 where
+  pub from : log_start ≤ at
+  pub block : log_block_at at < layout.log
+
+-- what an address of each class lies in
 abbrev pub HasBlock : Layout → Class → ℕ → Type 0
-HasBlock layout Open at = Unit {0}
-HasBlock layout Verified at = data_block_at at < data_blocks layout
-HasBlock layout Private at = data_block_at at < data_blocks layout
-HasBlock layout Constant at = data_block_at at < data_blocks layout
-HasBlock layout Code at = data_block_at at < data_blocks layout
-HasBlock layout Logged at = log_block_at at < layout.log
+HasBlock layout Open at = at < open_end
+HasBlock layout Verified at = IsInData layout at
+HasBlock layout Private at = IsInData layout at
+HasBlock layout Constant at = IsInData layout at
+HasBlock layout Code at = IsInData layout at
+HasBlock layout Logged at = IsInLog layout at

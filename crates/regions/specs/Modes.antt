@@ -71,21 +71,21 @@ allowed_in Release = is_secure
 allowed_in Input = is_secure
 allowed_in Check = is_secure
 
--- the modes behind an instruction that is allowed
-abbrev pub modes_behind : SecureInstruction → Modes → Modes
-modes_behind Enter modes = record modes { mode = Te }
-modes_behind Exit modes = record modes { mode = Std }
-modes_behind IndexTrap modes = record modes { mode = Std }
-modes_behind DivideTrap modes = record modes { mode = Std }
-modes_behind Suspend modes = record { mode = Ssp; kept = modes.mode }
-modes_behind Resume modes = record modes { mode = modes.kept }
-modes_behind PrivateOn modes = record modes { mode = Ptr }
-modes_behind PrivateOff modes = record modes { mode = Te }
-modes_behind Release modes = modes
-modes_behind Input modes = modes
-modes_behind Check modes = modes
+-- the new modes behind an instruction that is allowed
+abbrev pub new_modes : SecureInstruction → Modes → Modes
+new_modes Enter modes = record modes { mode = Te }
+new_modes Exit modes = record modes { mode = Std }
+new_modes IndexTrap modes = record modes { mode = Std }
+new_modes DivideTrap modes = record modes { mode = Std }
+new_modes Suspend modes = record { mode = Ssp; kept = modes.mode }
+new_modes Resume modes = record modes { mode = modes.kept }
+new_modes PrivateOn modes = record modes { mode = Ptr }
+new_modes PrivateOff modes = record modes { mode = Te }
+new_modes Release modes = modes
+new_modes Input modes = modes
+new_modes Check modes = modes
 
 -- the modes behind an instruction, which changes nothing where it is not allowed
 abbrev pub modes_after : SecureInstruction → Modes → Modes
 modes_after instruction modes =
-    if allowed_in instruction modes.mode then modes_behind instruction modes else modes
+    if allowed_in instruction modes.mode then new_modes instruction modes else modes

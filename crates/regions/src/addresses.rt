@@ -1,4 +1,5 @@
-//! The address map.
+//! The address map: open words first, data blocks from `TREE_START` and log blocks from `LOG_START`, both of
+//! 64 bytes. The map is this project's own.
 ghost use Rattle.std.specs.Prelude.{◌≡◌, ◌↔◌, IfSome};
 ghost use Rattle.regions.specs.Addresses.{block_start, class_at, data_block_at, HasBlock, IsUnderTree, LiesIn};
 ghost use Rattle.regions.specs.declared.rights.Class.{Class as SomeClass};
@@ -24,7 +25,7 @@ pub const SHARED_START: u32 = 0x8000;
 /// How many bytes a block has.
 pub const BLOCK_BYTES: u32 = 64;
 
-/// The class of an address, if it belongs to one.
+/// The class of an address, if it belongs to one. All bytes of a block have its class.
 #[tactic(auto, unfolding(crate::specs::Addresses::class_at))]
 pub fn class_of(layout: &Layout, at: u32) -> Option<Class>
     ensures class { result ≡ class_at layout.now at }

@@ -12,7 +12,9 @@ pub const MAX_LOG_BLOCKS: u32 = 1_024;
 pub const MAX_SHARED_BYTES: u32 = 32_768;
 
 /// How many blocks of 64 bytes a program has of each class, and how many bytes its shared variables take.
-/// The data blocks lie under the hash tree, in the order of the first four fields.
+/// The data blocks lie under the hash tree, in the order of the first four fields: together at most 6,561.
+/// There are at most 1,024 log blocks and 32,768 shared bytes. Who makes a layout proves the three limits,
+/// and who is given one can rely on them.
 #[derive(Clone, Copy, Debug, PartialEq, Eq)]
 pub struct Layout {
     /// Blocks whose contents are verified.

@@ -1,4 +1,5 @@
-//! The mode of the processor, and the instructions that change it.
+//! The mode of the processor, and the instructions that change it. Enter, exit, suspend and resume are named
+//! as in Suh et al., ISCA 2005; private on, private off and the table of modes are this project's own.
 ghost use Rattle.std.specs.Prelude.{◌≡◌, IsTrue};
 ghost use Rattle.regions.specs.Modes.{Enter, Exit, Suspend, Resume, PrivateOn, PrivateOff, allowed_in, is_secure, modes_after};
 

@@ -1,4 +1,7 @@
 //! What code may do at an address, by the mode that it runs in and the class of the address.
+//! The names of the modes are those of Suh et al., "Design and Implementation of the AEGIS Single-Chip Secure
+//! Processor Using Physical Random Functions", ISCA 2005. The classes and the table of rights are this project's
+//! own.
 ghost use Rattle.std.specs.Prelude.{◌≡◌};
 ghost use Rattle.regions.specs.Rights.{rights};
 

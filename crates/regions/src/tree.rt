@@ -1,4 +1,6 @@
-//! The tree over the data blocks. Each node has three children.
+//! The tree over the data blocks, after the cached hash tree of Suh et al., "AEGIS: Architecture for
+//! Tamper-Evident and Tamper-Resistant Processing", ICS 2003. Each node has three children. The blocks of the
+//! tree are numbered level by level from the root, which is 0; the lowest level has the data blocks.
 ghost use Rattle.std.specs.Prelude.{◌≡◌, ◌^◌, ◌<◌};
 ghost use Rattle.regions.specs.Blocks.{data_blocks};
 ghost use Rattle.regions.specs.Tree.{IsHeight, ancestor_of, fan, height_of, leaf_of, tree_blocks};
@@ -8,8 +10,8 @@ use crate::layout::Layout;
 /// How many children a node has.
 const FAN: u32 = 3;
 
-/// The height of the tree: the least number from 1 to 8 such that 3 to its power is at least the number of
-/// data blocks.
+/// The height of the tree, from 1 to 8: the least such number with at least as many positions in the lowest
+/// level, 3 to its power, as there are data blocks.
 pub fn height(layout: &Layout) -> u32
     ensures value { result ≡ height_of (data_blocks layout.now) }
     ensures least { IsHeight (data_blocks layout.now) result }
@@ -24,8 +26,8 @@ pub fn height(layout: &Layout) -> u32
     height
 }
 
-/// The tree block of a position in the lowest level. Data block d has position d, and positions behind the
-/// data blocks are unused.
+/// The number of the tree block at a position in the lowest level, which is below 3 to the power of the height.
+/// Data block d has position d, and the positions behind the data blocks are unused.
 pub fn leaf(layout: &Layout, position: u32) -> u32
     requires { position < fan ^ height_of (data_blocks layout.now) }
     ensures value { result ≡ leaf_of (height_of (data_blocks layout.now)) position }
