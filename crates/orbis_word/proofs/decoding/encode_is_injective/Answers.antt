@@ -1,0 +1,5 @@
+use Rattle.orbis_word.proofs.Words.{words-apart}
+use Rattle.orbis_word.proofs.decoding.encode_is_injective.Goals as goal
+
+pub returns : goal.returns
+returns c = words-apart
