@@ -1,0 +1,10 @@
+//! One raw allocation, seen as a list of bytes.
+#![tactic(auto)]
+
+mod memory;
+mod region;
+
+pub use region::Region;
+
+#[cfg(test)]
+mod tests;
