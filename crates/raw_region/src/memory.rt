@@ -97,7 +97,8 @@ impl Memory {
     #[inline]
     pub(crate) fn put(&mut self, at: usize, byte: u8)
         requires { at < length self.old.bytes }
-        ensures { (self.new.ptr ≡ self.old.ptr) × (self.new.bytes ≡ slice_set self.old.bytes at byte) }
+        ensures { (self.new.ptr ≡ self.old.ptr)
+            × (self.new.bytes ≡ slice_set self.old.bytes at byte) }
     {
         unsafe { *self.ptr.add(at) = byte };
     }

@@ -26,7 +26,8 @@ impl Model for Region {
 }
 
 impl Region {
-    /// A region of `len` bytes, all zero. More than `isize::MAX` bytes are never had.
+    /// A region of `len` bytes, all zero. It answers `OutOfMemory` where the allocator has no such
+    /// block, as for each `len` above `isize::MAX`.
     pub fn new(alloc: Global, len: usize) -> Result<Region, OutOfMemory>
         ensures zeros { IfOk result (λ region. region ≡ replicate len 0) }
     {
