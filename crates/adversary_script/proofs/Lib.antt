@@ -1,0 +1,4 @@
+pub mod Numerals
+pub mod Drafts
+pub mod Lines
+mod Worked
