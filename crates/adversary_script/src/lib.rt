@@ -18,3 +18,6 @@ pub use change::{Change, OPEN_BYTES, STORED_BLOCK_BYTES, Target, UNTRUSTED_START
 pub use error::ScriptError;
 pub use reading::read_script;
 pub use script::{Changes, Script};
+
+#[cfg(test)]
+mod tests;
