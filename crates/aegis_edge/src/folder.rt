@@ -53,6 +53,7 @@ pub trait Folder {
             → Rose (faults self.old) (faults self.new) }
         ensures front { OnErr result (HoldsFront (files self.old) name.now into.new.items) }
 
+        ensures steady { OnOk result (faults self.new ≡ faults self.old) }
         ensures kept { files self.new ≡ files self.old }
         ensures counted { faults self.old ≤ faults self.new };
 }

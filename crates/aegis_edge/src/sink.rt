@@ -33,6 +33,7 @@ pub trait Sink {
         ensures front { OnErr result
             (AppendsFront (written self.old) (written self.new) bytes.now) }
 
+        ensures steady { OnOk result (faults self.new ≡ faults self.old) }
         ensures unlimited { limit self.old ≡ None → limit self.new ≡ None }
         ensures counted { faults self.old ≤ faults self.new };
 }

@@ -2,10 +2,10 @@
 use Rattle.std.proofs.Common.{◌≡◌, ℕ, true, false, List, [], ◌∷◌, ◌++◌, None, Some, refl, ap, arith}
 use Rattle.std.specs.Prelude.{codes}
 use Rattle.std.proofs.lemmas.Fmt.{decimal_digit}
-use Rattle.aegis_run.specs.declared.ends.File.TheVariants.{Script}
+use Rattle.aegis_run.specs.declared.ends.File.TheVariants.{Source, Script, Input}
 use Rattle.aegis_run.specs.declared.ends.End.TheVariants.{Ended}
 use Rattle.aegis_run.specs.declared.ends.TopEnd.TheVariants.{Run, Usage, NotYet}
-use Rattle.aegis_run.specs.Answer.{released}
+use Rattle.aegis_run.specs.Answer.{limit_for, released}
 use Rattle.aegis_run.specs.Code.{code_of}
 use Rattle.aegis_run.specs.Report.{line_of, status_of}
 use Rattle.aegis_run.specs.Words.{RunNames, is_fuel, run_row}
@@ -69,3 +69,6 @@ line_of_script = refl
 
 unwritten : status_of Usage false ≡ 5
 unwritten = refl
+
+limits : (limit_for Source ≡ 262144) × (limit_for Script ≡ 1048576) × (limit_for Input ≡ 65536)
+limits = (refl, refl, refl)

@@ -1,9 +1,9 @@
 //! The way of a call: its words, its files, the code, the run.
-ghost use Rattle.std.specs.Prelude.{◌≡◌, ◌+◌, ◌*◌, ◌^◌, ◌<◌, ◌≤◌, None, length, IfOk, OnErr};
+ghost use Rattle.std.specs.Prelude.{◌≡◌, ◌≢◌, ◌+◌, ◌*◌, ◌^◌, ◌<◌, ◌≤◌, None, length, IfOk, OnErr};
 ghost use Rattle.std.specs.List.{AllByRecursion};
 ghost use Rattle.aegis_edge.specs.Faults.{Rose};
 ghost use Rattle.aegis_run.specs.Words.{names_in};
-ghost use Rattle.aegis_run.specs.Answer.{Cause, Sends, IsRetired, released};
+ghost use Rattle.aegis_run.specs.Answer.{Cause, AreTold, Sends, IsRetired, released};
 ghost use Rattle.aegis_run.specs.Code.{Delivers, SendsOnly};
 
 use crate::compiler::compile;
@@ -41,6 +41,13 @@ pub fn answer_words<F: Folder, K: Sink>(
     ensures retired { IsRetired (names_in words.now) (F.files folder.old)
         result.end result.retired }
     ensures kept { F.files folder.new ≡ F.files folder.old }
+    ensures steady { (end : End) → result.end ≡ TopEnd.Run end
+        → F.faults folder.new ≡ F.faults folder.old }
+    ensures told_steady { AreTold (F.files folder.old)
+        → result.end ≢ TopEnd.ReadFault → result.end ≢ TopEnd.OutOfMemory
+        → F.faults folder.new ≡ F.faults folder.old }
+    ensures out_steady { result.end ≢ TopEnd.Run End.WriteFault
+        → K.faults out.new ≡ K.faults out.old }
 {
     let Some(names) = run_words(words) else {
         return Outcome {
@@ -66,6 +73,8 @@ fn answer_prepared<K: Sink>(alloc: Global, prepared: &Prepared, out: &mut K) -> 
         → Rose (K.faults out.old) (K.faults out.new) }
     ensures retired { result.end ≡ TopEnd.Run End.Ended
         → result.retired ≡ 3 * length prepared.now.program + 1 }
+    ensures steady { result.end ≢ TopEnd.Run End.WriteFault
+        → K.faults out.new ≡ K.faults out.old }
 {
     match execute(alloc, prepared, out) {
         Ok(ran) => Outcome {
@@ -92,6 +101,9 @@ fn execute<K: Sink>(alloc: Global, prepared: &Prepared, out: &mut K) -> Result<R
     ensures retired { IfOk result (λ ran. ran.end ≡ End.Ended
         → ran.retired ≡ 3 * length prepared.now.program + 1) }
     ensures silent { OnErr result (K.written out.new ≡ K.written out.old) }
+    ensures steady { IfOk result (λ ran. ran.end ≡ End.Ended
+        → K.faults out.new ≡ K.faults out.old) }
+    ensures untouched { OnErr result (K.faults out.new ≡ K.faults out.old) }
 {
     let code = compile(alloc, prepared.program.literals())?;
     machine::run(alloc, code.as_slice(), prepared.input.as_slice(), out)

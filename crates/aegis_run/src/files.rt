@@ -1,7 +1,7 @@
 //! The files that a run reads, in their order.
-ghost use Rattle.std.specs.Prelude.{◌≡◌, ◌≤◌, length, IfOk, IfErr};
+ghost use Rattle.std.specs.Prelude.{◌≡◌, ◌≢◌, ◌≤◌, length, IfOk, IfErr, OnOk};
 ghost use Rattle.c_reader.specs.Source.{IsSource};
-ghost use Rattle.aegis_run.specs.Answer.{IsRead, limit_for, CauseOfRun, IsRunOf};
+ghost use Rattle.aegis_run.specs.Answer.{IsRead, AreTold, limit_for, CauseOfRun, IsRunOf};
 ghost use Rattle.aegis_run.specs.Opening.{ParseCause, OpenCause, IsRefusal, names_of};
 
 use crate::ends::{File, TopEnd};
@@ -30,6 +30,10 @@ pub fn prepare<F: Folder>(
         CauseOfRun (names_of names.now) (F.files folder.old)
         (F.faults folder.old) (F.faults folder.new) end) }
     ensures no_run { IfErr result IsRefusal }
+    ensures told_steady { IfErr result (λ end.
+        AreTold (F.files folder.old) → end ≢ TopEnd.ReadFault → end ≢ TopEnd.OutOfMemory
+        → F.faults folder.new ≡ F.faults folder.old) }
+    ensures steady { OnOk result (F.faults folder.new ≡ F.faults folder.old) }
     ensures kept { F.files folder.new ≡ F.files folder.old }
 {
     let source = open(alloc, folder, names.source, File::Source)?;
@@ -58,11 +62,15 @@ fn parse(alloc: Global, text: &[u8]) -> Result<Program, TopEnd>
 /// The whole text of a file, which holds at most its limit.
 fn open<F: Folder>(alloc: Global, folder: &mut F, name: &str, file: File) -> Result<Vec<u8>, TopEnd>
     ensures read { IfOk result (λ text. IsRead (F.files folder.old) name.now file text.items) }
+    ensures steady { OnOk result (F.faults folder.new ≡ F.faults folder.old) }
     ensures refused { IfErr result (λ end.
         OpenCause (F.files folder.old) name.now file
         (F.faults folder.old) (F.faults folder.new) end) }
     ensures kept { F.files folder.new ≡ F.files folder.old }
     ensures counted { F.faults folder.old ≤ F.faults folder.new }
+    ensures told_steady { IfErr result (λ end.
+        AreTold (F.files folder.old) → end ≢ TopEnd.ReadFault → end ≢ TopEnd.OutOfMemory
+        → F.faults folder.new ≡ F.faults folder.old) }
 {
     let mut text = Vec::new(alloc);
     match folder.read(alloc, name, limit(file), &mut text) {

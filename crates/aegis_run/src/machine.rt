@@ -35,6 +35,9 @@ pub fn run<K: Sink>(
         → Rose (K.faults out.old) (K.faults out.new)) }
     ensures retired { IfOk result (λ ran. ran.end ≡ End.Ended → ran.retired ≡ length code.now) }
     ensures silent { OnErr result (K.written out.new ≡ K.written out.old) }
+    ensures steady { IfOk result (λ ran. ran.end ≡ End.Ended
+        → K.faults out.new ≡ K.faults out.old) }
+    ensures untouched { OnErr result (K.faults out.new ≡ K.faults out.old) }
 {
     let mut memory = FlatMemory::of_code(alloc, code)?;
     let mut core = Core::new(CODE_START);

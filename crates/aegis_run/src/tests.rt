@@ -1,6 +1,7 @@
 use crate::ends::{End, File, TopEnd};
 use crate::top::aegis;
 use aegis_edge::{MemFolder, MemSink};
+use aegis_num::OutOfMemory;
 use c_reader::SyntaxError;
 use std::alloc::{AllocError, Global};
 use std::test::Fail;
@@ -17,133 +18,113 @@ fn words_of(alloc: Global, files: [&str; 3], fuel: &str) -> Result<Vec<String>, 
     Ok(words)
 }
 
+/// A folder of small files, whose calls of `read` of these numbers fail.
+fn folder_of(alloc: Global, failing: &[u64]) -> Result<MemFolder, OutOfMemory> {
+    let mut folder = MemFolder::new(alloc, failing)?;
+    folder.add("hi", b"int main(void){release(72);release(105);return 0;}")?;
+    folder.add("low", b"int main(void){release(328);return 0;}")?;
+    folder.add("bad", b"int main(void){release(72);release(x);return 0;}")?;
+    folder.add("none", b"")?;
+    folder.add("byte", b"#")?;
+    Ok(folder)
+}
+
 #[test]
 fn rows(rt: HostRuntime) -> Result<(), Fail> {
     let alloc = rt.alloc();
     let hi = ["hi", "none", "none"];
-    let usage = "usage: run SOURCE SCRIPT INPUT FUEL KEY NONCE\n";
-    let retired = "ended retired 7 events 0\n";
     let ended = TopEnd::Run(End::Ended);
-    let faulty = TopEnd::Run(End::WriteFault);
-    let not_yet = TopEnd::Syntax(SyntaxError::NotYet { at: 35 });
-    let no_read: &[u64] = &[];
-    let no_write: &[(u64, u64)] = &[];
-    for (files, fuel, reads, writes, end, out, line, status) in [
-        (hi, "8000000", no_read, no_write, ended, "Hi", retired, 0),
+    let cut = TopEnd::Run(End::WriteFault);
+    let fault = TopEnd::ReadFault;
+    let place = TopEnd::Syntax(SyntaxError::NotYet { at: 35 });
+    let absent = TopEnd::NoFile(File::Script);
+    let script = TopEnd::NotYet(File::Script);
+    let four = "ended retired 4 events 0\n";
+    let seven = "ended retired 7 events 0\n";
+    let all: &[u64] = &[];
+    let whole: &[(u64, u64)] = &[];
+    for (files, reads, writes, end, out, line, status) in [
+        (hi, all, whole, ended, "Hi", seven, 0),
+        (hi, &[3], whole, ended, "Hi", seven, 0),
+        (["low", "none", "byte"], all, whole, ended, "H", four, 0),
+        (hi, &[0], whole, fault, "", "read fault\n", 4),
+        (hi, &[1], whole, fault, "", "read fault\n", 4),
+        (hi, &[2], whole, fault, "", "read fault\n", 4),
+        (hi, all, &[(0, 0)], cut, "", "write fault\n", 5),
+        (hi, all, &[(1, 0)], cut, "H", "write fault\n", 5),
         (
-            hi,
-            "33554433",
-            no_read,
-            no_write,
-            TopEnd::Usage,
-            "",
-            usage,
-            1,
-        ),
-        (
-            hi,
-            "8000000",
-            &[0],
-            no_write,
-            TopEnd::ReadFault,
-            "",
-            "read fault\n",
-            4,
-        ),
-        (
-            hi,
-            "8000000",
+            ["bad", "gone", "gone"],
             &[1],
-            no_write,
-            TopEnd::ReadFault,
-            "",
-            "read fault\n",
-            4,
-        ),
-        (
-            hi,
-            "8000000",
-            &[2],
-            no_write,
-            TopEnd::ReadFault,
-            "",
-            "read fault\n",
-            4,
-        ),
-        (
-            hi,
-            "8000000",
-            no_read,
-            &[(0, 0)],
-            faulty,
-            "",
-            "write fault\n",
-            5,
-        ),
-        (
-            hi,
-            "8000000",
-            no_read,
-            &[(1, 0)],
-            faulty,
-            "H",
-            "write fault\n",
-            5,
-        ),
-        (
-            ["low", "none", "none"],
-            "8000000",
-            no_read,
-            no_write,
-            ended,
-            "H",
-            "ended retired 4 events 0\n",
-            0,
-        ),
-        (
-            ["bad", "gone", "none"],
-            "8000000",
-            no_read,
-            no_write,
-            not_yet,
+            whole,
+            place,
             "",
             "byte 35: not yet\n",
             2,
         ),
         (
-            ["hi", "gone", "none"],
-            "8000000",
-            no_read,
-            no_write,
-            TopEnd::NoFile(File::Script),
+            ["hi", "gone", "gone"],
+            &[2],
+            whole,
+            absent,
             "",
             "no file: script\n",
             4,
         ),
         (
-            ["hi", "byte", "none"],
-            "8000000",
-            no_read,
-            no_write,
-            TopEnd::NotYet(File::Script),
+            ["hi", "byte", "gone"],
+            &[2],
+            whole,
+            script,
             "",
             "not yet script\n",
             9,
         ),
     ] {
-        let mut folder = MemFolder::new(alloc, reads)?;
-        folder.add("hi", b"int main(void){release(72);release(105);return 0;}")?;
-        folder.add("low", b"int main(void){release(328);return 0;}")?;
-        folder.add("bad", b"int main(void){release(72);release(x);return 0;}")?;
-        folder.add("none", b"")?;
-        folder.add("byte", b"#")?;
+        let mut folder = folder_of(alloc, reads)?;
         let mut sink = MemSink::with_room(alloc, 16, writes)?;
         let mut notes = MemSink::with_room(alloc, 64, &[])?;
-        let words = words_of(alloc, files, fuel)?;
+        let words = words_of(alloc, files, "8000000")?;
         let finish = aegis(alloc, words.as_slice(), &mut folder, &mut sink, &mut notes);
         assert_eq!(rt; finish.end, end, "at {line}");
         assert_eq!(rt; finish.status, status, "at {line}");
         assert!(rt; finish.noted, "at {line}");
+        assert_eq!(rt; sink.bytes(), out.as_bytes(), "at {line}");
+        assert_eq!(rt; notes.bytes(), line.as_bytes(), "at {line}");
+    }
+    Ok(())
+}
+
+#[test]
+fn fuel_and_notes(rt: HostRuntime) -> Result<(), Fail> {
+    let alloc = rt.alloc();
+    let ended = TopEnd::Run(End::Ended);
+    for (fuel, end, out, line, noted, status) in [
+        (
+            "33554432",
+            ended,
+            "Hi",
+            "ended retired 7 events 0\n",
+            true,
+            0,
+        ),
+        (
+            "33554433",
+            TopEnd::Usage,
+            "",
+            "usage: run SOURCE SCRIPT INPUT FUEL KEY NONCE\n",
+            true,
+            1,
+        ),
+        ("33554432", ended, "Hi", "ended", false, 5),
+    ] {
+        let mut folder = folder_of(alloc, &[])?;
+        let mut sink = MemSink::with_room(alloc, 16, &[])?;
+        let mut notes = MemSink::with_room(alloc, if noted { 64 } else { 5 }, &[])?;
+        let words = words_of(alloc, ["hi", "none", "none"], fuel)?;
+        let finish = aegis(alloc, words.as_slice(), &mut folder, &mut sink, &mut notes);
+        assert_eq!(rt; finish.end, end, "at {line}");
+        assert_eq!(rt; finish.status, status, "at {line}");
+        assert_eq!(rt; finish.noted, noted, "at {line}");
         assert_eq!(rt; sink.bytes(), out.as_bytes(), "at {line}");
         assert_eq!(rt; notes.bytes(), line.as_bytes(), "at {line}");
     }

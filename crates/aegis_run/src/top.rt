@@ -64,6 +64,13 @@ pub fn aegis<F: Folder, K: Sink, N: Sink>(
 
     // The files are as before.
     ensures kept { F.files folder.new ≡ F.files folder.old }
+    ensures told_steady { AreTold (F.files folder.old)
+        → result.end ≢ TopEnd.ReadFault → result.end ≢ TopEnd.OutOfMemory
+        → F.faults folder.new ≡ F.faults folder.old }
+    ensures out_steady { result.end ≢ TopEnd.Run End.WriteFault
+        → K.faults out.new ≡ K.faults out.old }
+    ensures steady { (end : End) → result.end ≡ TopEnd.Run end
+        → F.faults folder.new ≡ F.faults folder.old }
 
     // What out took: all that the source releases, or a front of it; at each other answer nothing.
     ensures ended { result.end ≡ TopEnd.Run End.Ended
@@ -87,6 +94,7 @@ pub fn aegis<F: Folder, K: Sink, N: Sink>(
         × IsRetired (names_in words.now) (F.files folder.old) result.end retired
         × AppendsFront (N.written notes.old) (N.written notes.new) (line_of result.end retired) }
     ensures line_fault { result.noted ≡ false → Rose (N.faults notes.old) (N.faults notes.new) }
+    ensures line_steady { IsTrue result.noted → N.faults notes.new ≡ N.faults notes.old }
     ensures status { result.status ≡ status_of_answer result.end result.noted }
 {
     let outcome = answer_words(alloc, words, folder, out);
@@ -103,6 +111,7 @@ pub fn noted<N: Sink>(end: TopEnd, retired: u64, notes: &mut N) -> Finish
     ensures line_cut { result.noted ≡ false
         → AppendsFront (N.written notes.old) (N.written notes.new) (line_of end retired) }
     ensures line_fault { result.noted ≡ false → Rose (N.faults notes.old) (N.faults notes.new) }
+    ensures line_steady { IsTrue result.noted → N.faults notes.new ≡ N.faults notes.old }
     ensures status { result.status ≡ status_of_answer end result.noted }
 {
     let line = report_line(end, retired);

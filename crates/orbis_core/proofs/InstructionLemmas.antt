@@ -2,6 +2,8 @@
 use Rattle.std.proofs.Common.{◌≡◌, refl, ap, arith}
 use Rattle.orbis_core.specs.declared.decode.Instr.{Instr}
 use Rattle.orbis_core.specs.declared.decode.Instr.TheVariants.{Movhi, Ori, Cust1}
+use Rattle.orbis_core.specs.declared.flat_memory.TheConstants.{CODE_START, MAX_CODE_WORDS}
+use Rattle.orbis_core.specs.FlatMemory.{code_start, max_code_words}
 use Rattle.orbis_core.specs.Instruction.{word_of, IsInRange}
 
 -- l.movhi r3,1
@@ -38,3 +40,7 @@ word_of-injective (Ori d a k) (Cust1 f) p q h = absurd (omega arith)
 word_of-injective (Cust1 f) (Movhi e l) p q h = absurd (omega arith)
 word_of-injective (Cust1 f) (Ori e b l) p q h = absurd (omega arith)
 word_of-injective (Cust1 f) (Cust1 g) p q h = let same : f ≡ g = omega arith in ap Cust1 same
+
+-- the constants of the memory that holds code are those of its definition
+pub code_constants : (CODE_START ≡ code_start) × (MAX_CODE_WORDS ≡ max_code_words)
+code_constants = (refl, refl)

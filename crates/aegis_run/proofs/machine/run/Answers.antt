@@ -49,6 +49,7 @@ loop-index-preserved g c =
             port = ap (λ p. p.next) left.follows.port ∙ c.loop-index.invariant.port;
             unlimited = ap g.K.Sink.limit w.out-is ∙ c.loop-index.invariant.unlimited;
             counted = (let same = ap g.K.Sink.faults w.out-is in omega arith);
+            steady = ap g.K.Sink.faults w.out-is ∙ c.loop-index.invariant.steady;
             progress = λ bytes h.
                 let P : _ → Type 0 = λ out. Progress code (index + 1) c.step.new.core (written c.args.out.now) (written out) bytes in
                 subst P (sym w.out-is) (after_next code index _ _ _ _ bytes
@@ -62,6 +63,7 @@ loop-index-preserved g c =
             port = ap (λ p. p.next) left.follows.port ∙ c.loop-index.invariant.port;
             unlimited = ap g.K.Sink.limit w.out-is ∙ w.write.ensures.unlimited c.loop-index.invariant.unlimited;
             counted = (let same = ap g.K.Sink.faults w.out-is in omega arith);
+            steady = ap g.K.Sink.faults w.out-is ∙ (let one : g.K.Sink.faults w.write.new.self ≡ g.K.Sink.faults c.loop-index.out = grind (arith, common_steps) in one) ∙ c.loop-index.invariant.steady;
             progress = λ bytes h.
                 let P : _ → Type 0 = λ out. Progress code (index + 1) c.step.new.core (written c.args.out.now) (written out) bytes in
                 subst P (sym w.out-is) (after_release code index w.in-Released.byte _ _ _ _ _ bytes

@@ -9,6 +9,7 @@ invariant-loop-index g l = record {
   port : l.port.next ≡ 0;
   unlimited : g.K.Sink.limit l.out ≡ None;
   counted : g.K.Sink.faults l.fn.out ≤ g.K.Sink.faults l.out;
+  steady : g.K.Sink.faults l.out ≡ g.K.Sink.faults l.fn.out;
   progress : (bytes : List ℕ) → RunsTo l.code (length l.code) reset bytes
       → Progress l.code l.index l.core (g.K.Sink.written l.fn.out) (g.K.Sink.written l.out) bytes;
 }
