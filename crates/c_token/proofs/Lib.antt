@@ -8,3 +8,8 @@ pub mod NumberReads
 pub mod Texts
 pub mod Cases
 pub mod Scan
+pub mod PlainFronts
+pub mod PlainNumbers
+pub mod PlainSigns
+pub mod PlainTexts
+pub mod TokenForms

@@ -19,7 +19,7 @@ passed at (suc left) (b ∷ bs) le =
     passed (at + 1) left bs (omega arith) ∙ ap (λ n. tokens_from n 0 (drop left bs)) (let sum : at + 1 + left ≡ at + suc left = omega arith in sum)
 
 -- one front
-front_first : (at : ℕ) (text : List ℕ) (front : Front) → 0 < front.len → front.len ≤ length text → front_at at text ≡ Ok front
+pub front_first : (at : ℕ) (text : List ℕ) (front : Front) → 0 < front.len → front.len ≤ length text → front_at at text ≡ Ok front
     → tokens_from at 0 text ≡ put_before at front.lexeme (tokens_from (at + front.len) 0 (drop front.len text))
 unfolding tokens_from front_then
 front_first at [] front pos le found = absurd (omega arith)
@@ -35,7 +35,7 @@ front_first at (b ∷ bs) front pos le found =
         ∙ passed (at + 1) n bs (omega arith)
         ∙ ap (λ m. tokens_from m 0 (drop n bs)) (let sum : at + 1 + n ≡ at + suc n = omega arith in sum)
 
-put_before-none : (at : ℕ) (rest : Result (List Placed) TokenError) → put_before at None rest ≡ rest
+pub put_before-none : (at : ℕ) (rest : Result (List Placed) TokenError) → put_before at None rest ≡ rest
 unfolding put_before
 put_before-none at (Ok placed) = refl
 put_before-none at (Err error) = refl

@@ -1,10 +1,12 @@
 -- The definition of tokens on worked texts.
 use Rattle.std.proofs.Common.{◌≡◌, ℕ, true, false, [], ◌∷◌, Ok, Err, refl}
 use Rattle.std.specs.Prelude.{codes}
+use Rattle.std.specs.Fmt.{digits}
 use Rattle.c_token.specs.declared.words.Word.TheVariants as words
 use Rattle.c_token.specs.declared.signs.Sign.TheVariants as signs
 use Rattle.c_token.specs.declared.kinds.TokenError.TheVariants.{BadByte, OpenComment, LongName, BadNumber, BigNumber}
 use Rattle.c_token.specs.Lexemes.{Lexeme, name, number, word, sign, Placed}
+use Rattle.c_token.specs.Plain.{plain_text, is_in_form, plain_placed}
 use Rattle.c_token.specs.Tokens.{tokens_of, tokens_from, front_at, front_then, put_before, token_of_len, judged, block_comment}
 
 abbrev placed : ℕ → Lexeme → Placed
@@ -62,3 +64,17 @@ first_program : tokens_of (codes "int main(void){release(72);") ≡ Ok (
     ∷ placed 23 (number 72 false) ∷ placed 25 (sign signs.RightParenthesis) ∷ placed 26 (sign signs.Semicolon) ∷ [])
 unfolding tokens_of tokens_from front_at front_then put_before token_of_len judged block_comment
 first_program = refl
+
+-- a plain text, and what it reads as
+plain_tokens : plain_text (word words.Release ∷ sign signs.LeftParenthesis ∷ number 72 false ∷ number 105 true ∷ name (codes "_a") ∷ sign signs.ShiftRight ∷ []) ≡ codes "release ( 72 105u _a >>"
+unfolding digits
+plain_tokens = refl
+
+plain_places : plain_placed 0 (word words.Int ∷ name (codes "ab") ∷ number 7 true ∷ []) ≡ placed 0 (word words.Int) ∷ placed 4 (name (codes "ab")) ∷ placed 7 (number 7 true) ∷ []
+unfolding digits
+plain_places = refl
+
+-- a word is no name, a number above 2147483647 is unsigned, and none is above 4294967295
+out_of_form : (is_in_form (name (codes "int")) ≡ false) × (is_in_form (number 2147483648 false) ≡ false) × (is_in_form (number 4294967296 true) ≡ false)
+    × (is_in_form (name (codes "abcdefghijklmnopqrstuvwxyzabcdef")) ≡ false) × (is_in_form (name (codes "1a")) ≡ false)
+out_of_form = (refl, refl, refl, refl, refl)

@@ -4,3 +4,4 @@ pub mod Lexemes
 pub mod Spelling
 pub mod Tokens
 pub mod Fronts
+pub mod Plain

@@ -4,6 +4,7 @@
 mod bytes;
 mod front;
 mod kinds;
+mod laws;
 mod scanner;
 mod signs;
 #[cfg(test)]
@@ -11,6 +12,7 @@ mod tests;
 mod words;
 
 pub use kinds::{Kind, Token, TokenError};
+pub use laws::{plain_text_reads_back, tokens_are_in_form};
 pub use scanner::tokens;
 pub use signs::Sign;
 pub use words::Word;

@@ -10,7 +10,7 @@ use std::alloc::Global;
 
 /// The tokens of a text, in order, or its first fault (ISO/IEC 9899, section 6.4).
 /// Blanks and comments aside, each token is the longest one that stands in its place.
-/// The text has at most `MAX_SOURCE_BYTES` bytes, and is read in a time that grows as its length.
+/// The text has at most `MAX_SOURCE_BYTES` bytes.
 pub fn tokens(alloc: Global, text: &[u8]) -> Result<Vec<Token>, TokenError>
     requires { length text.now ≤ MAX_SOURCE_BYTES }
     ensures tokens { IfOk result (λ tokens. tokens_of text.now ≡ Ok (placed_all tokens.items)) }
