@@ -1,0 +1,5 @@
+use Rattle.execution.specs.RunLaws.{run-ended}
+use Rattle.execution.proofs.runs.ends_stay.Goals as goal
+
+pub returns : goal.returns
+returns g c = record { unchanged = run-ended }

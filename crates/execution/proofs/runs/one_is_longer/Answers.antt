@@ -1,0 +1,5 @@
+use Rattle.execution.specs.RunLaws.{one-longer}
+use Rattle.execution.proofs.runs.one_is_longer.Goals as goal
+
+pub returns : goal.returns
+returns g c = record { longer = one-longer }

@@ -1,0 +1,5 @@
+use Rattle.execution.specs.RunLaws.{run-+}
+use Rattle.execution.proofs.runs.runs_join.Goals as goal
+
+pub returns : goal.returns
+returns g c = record { joined = run-+ }

@@ -1,0 +1,5 @@
+use Rattle.execution.specs.TrafficLaws.{extends-trans}
+use Rattle.execution.proofs.traffic.extends_joins.Goals as goal
+
+pub returns : goal.returns
+returns g c = record { joined = extends-trans }

@@ -1,0 +1,4 @@
+pub mod Run
+pub mod RunLaws
+pub mod Traffic
+pub mod TrafficLaws
