@@ -1,24 +1,17 @@
 -- A token's plain spelling, before a space or the end, is the longest token there.
-use Rattle.std.proofs.Common.{◌≡◌, ℕ, suc, ◌+◌, ◌<◌, ◌≤◌, ◌^◌, Bool, true, false, cond, ◌||◌, List, [], ◌∷◌, ◌++◌, length, get_or, take, drop, eqb, ltb, leb, not, Option, None, Some, Ok, is_some, refl, sym, ap, subst, ◌∙◌, ⊎_elim, arith, append_assoc}
-use Rattle.std.specs.Prelude.{codes, nat_eq, find}
+use Rattle.std.proofs.Common.{◌≡◌, ℕ, ◌+◌, Bool, true, false, List, [], ◌∷◌, ◌++◌, length, take, eqb, Option, None, Some, Ok, is_some, refl, sym, ap, ◌∙◌, arith}
+use Rattle.std.specs.Prelude.{nat_eq}
 use Rattle.std.specs.List.{list_all, prefix_len, starts_with}
-use Rattle.std.specs.Char.{is_ascii_digit, is_ascii_hexdigit, digit_value}
-use Rattle.std.specs.Fmt.{decimal}
-use Rattle.std.specs.Str.Parse.{AllDigits, digits_value}
-use Rattle.std.proofs.lemmas.Bool.{cases_Bool, cases_lt, cond-true, cond-false, and_parts, and_from, and_left, or_cases, false≢true, leb-true, not-true, lt-ltb, le-ltb, ne_eqb, or_from}
+use Rattle.std.proofs.lemmas.Bool.{cond-true, cond-false, and_parts, and_from, and_left, false≢true, leb-true, not-true}
 use Rattle.std.proofs.lemmas.Bool.Decides.{nat_tests}
-use Rattle.std.proofs.lemmas.List.{take_at, drop_at, length-append, append-nil}
-use Rattle.std.proofs.lemmas.Fmt.{decimal_is_IsNumeral, first_decimal, decimal_digit}
+use Rattle.std.proofs.lemmas.List.{take_at}
 use Rattle.c_token.specs.declared.words.Word.{Word}
-use Rattle.c_token.specs.declared.words.Word.TheVariants.{Int, Unsigned, Void, Const, If, Else, While, For, Return, Break, Continue, Release, Input, Check, Verified, Private, Shared, Logged, Untrusted}
-use Rattle.c_token.specs.declared.signs.Sign.{Sign}
-use Rattle.c_token.specs.declared.signs.Sign.TheVariants.{LeftParenthesis, RightParenthesis, LeftBrace, RightBrace, LeftBracket, RightBracket, Semicolon, Comma, Assign, Plus, Minus, Star, Slash, Percent, Ampersand, VerticalBar, Caret, Tilde, Exclamation, LessThan, GreaterThan, LessOrEqual, GreaterOrEqual, EqualTo, NotEqualTo, ShiftLeft, ShiftRight, LogicalAnd, LogicalOr}
-use Rattle.c_token.specs.Lexemes.{Lexeme, name, number, word, sign}
+use Rattle.c_token.specs.declared.words.Word.TheVariants.{Int}
+use Rattle.c_token.specs.Lexemes.{name, word}
 use Rattle.c_token.specs.Words.{word_spelling, word_of}
-use Rattle.c_token.specs.Signs.{sign_spelling, sign_of}
 use Rattle.c_token.specs.Spelling.{is_name_start, is_name_byte, is_name, is_token}
 use Rattle.c_token.specs.Tokens.{is_blank, begins_with, longest, token_of_len, token, front_at}
-use Rattle.c_token.specs.Plain.{plain_spelling, is_in_form}
+use Rattle.c_token.specs.Plain.{is_in_form}
 use Rattle.c_token.proofs.Cases.{front_is_token}
 use Rattle.c_token.proofs.Names.{is_word_front, is_name_front}
 

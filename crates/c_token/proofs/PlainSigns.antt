@@ -1,16 +1,16 @@
 -- The plain spelling of a sign is the longest token before a space or the end.
-use Rattle.std.proofs.Common.{◌≡◌, ℕ, ◌<◌, Bool, true, false, ◌&&◌, List, [], ◌∷◌, ◌++◌, length, take, eqb, not, Option, None, Some, Ok, is_some, refl, sym, ap, subst, ◌∙◌, arith}
+use Rattle.std.proofs.Common.{◌≡◌, ℕ, ◌<◌, Bool, true, false, ◌&&◌, List, [], ◌∷◌, ◌++◌, length, eqb, not, Option, None, Some, Ok, is_some, refl, sym, ap, ◌∙◌, arith}
 use Rattle.std.specs.Prelude.{codes, nat_eq}
 use Rattle.std.specs.List.{starts_with}
 use Rattle.std.specs.Char.{is_ascii_digit}
 use Rattle.std.proofs.lemmas.Bool.{and_parts, and_right, not-true, false≢true}
 use Rattle.std.proofs.lemmas.Bool.Decides.{nat_tests}
 use Rattle.c_token.specs.declared.signs.Sign.{Sign}
-use Rattle.c_token.specs.declared.signs.Sign.TheVariants.{LeftParenthesis, RightParenthesis, LeftBrace, RightBrace, LeftBracket, RightBracket, Semicolon, Comma, Assign, Plus, Minus, Star, Slash, Percent, Ampersand, VerticalBar, Caret, Tilde, Exclamation, LessThan, GreaterThan, LessOrEqual, GreaterOrEqual, EqualTo, NotEqualTo, ShiftLeft, ShiftRight, LogicalAnd, LogicalOr}
+use Rattle.c_token.specs.declared.signs.Sign.TheVariants.{LeftParenthesis}
 use Rattle.c_token.specs.Lexemes.{sign}
 use Rattle.c_token.specs.Signs.{sign_spelling, sign_of}
-use Rattle.c_token.specs.Spelling.{is_name_start, is_token}
-use Rattle.c_token.specs.Tokens.{is_blank, longest, token_of_len, token, front_at}
+use Rattle.c_token.specs.Spelling.{is_name_start}
+use Rattle.c_token.specs.Tokens.{is_blank, token, front_at}
 use Rattle.c_token.proofs.Cases.{front_is_token}
 use Rattle.c_token.proofs.SignFronts.{IsOther, sign_of_one, sign_of_two}
 use Rattle.c_token.proofs.PlainFronts.{is_parted}

@@ -1,14 +1,13 @@
 -- The tokens of a plain text, one after another.
-use Rattle.std.proofs.Common.{◌≡◌, ℕ, ◌+◌, ◌<◌, ◌≤◌, true, false, ◌&&◌, List, [], ◌∷◌, ◌++◌, length, drop, None, Some, Ok, refl, sym, ap, ◌∙◌, arith}
-use Rattle.std.specs.Prelude.{map}
+use Rattle.std.proofs.Common.{◌≡◌, ℕ, ◌+◌, ◌<◌, true, List, [], ◌∷◌, ◌++◌, length, Some, Ok, refl, ap, ◌∙◌, arith}
 use Rattle.std.specs.List.{list_all}
 use Rattle.std.proofs.lemmas.Bool.{and_parts, false≢true}
 use Rattle.std.proofs.lemmas.List.{drop_at, length-append}
-use Rattle.c_token.specs.Lexemes.{Lexeme, name, number, word, sign, Placed}
+use Rattle.c_token.specs.Lexemes.{Lexeme, name, number, word, sign}
 use Rattle.c_token.specs.Words.{word_spelling}
 use Rattle.c_token.specs.Spelling.{is_name}
 use Rattle.c_token.specs.Tokens.{token, gap, put_before, tokens_from, tokens_of, front_at}
-use Rattle.c_token.specs.Plain.{plain_spelling, spaced_text, plain_text, is_in_form, plain_placed, lexemes_of, PlainTextReadsBack}
+use Rattle.c_token.specs.Plain.{plain_spelling, spaced_text, is_in_form, plain_placed, lexemes_of, PlainTextReadsBack}
 use Rattle.c_token.proofs.Cases.{front_is_blank}
 use Rattle.c_token.proofs.Scan.{front_first, put_before-none}
 use Rattle.c_token.proofs.PlainFronts.{is_parted, word_is_name, word_front, name_front}

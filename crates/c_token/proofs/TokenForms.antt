@@ -1,17 +1,16 @@
 -- Each token of a text is in form.
-use Rattle.std.proofs.Common.{◌≡◌, ℕ, zero, suc, ◌+◌, ◌-◌, Bool, true, false, ◌||◌, List, [], ◌∷◌, length, take, drop, ltb, leb, Option, None, Some, Result, Ok, Err, refl, sym, ap, subst, ◌∙◌, ⊎_elim, arith}
+use Rattle.std.proofs.Common.{◌≡◌, ℕ, zero, suc, ◌+◌, ◌-◌, Bool, true, false, ◌||◌, List, [], ◌∷◌, length, take, drop, ltb, leb, Option, None, Some, Result, Ok, Err, refl, subst, arith}
 use Rattle.std.specs.Prelude.{option_map, nat_eq, codes}
 use Rattle.std.specs.List.{list_all, starts_with}
-use Rattle.std.specs.Char.{is_ascii_digit, is_ascii_hexdigit}
-use Rattle.std.proofs.lemmas.Bool.{cases_Bool, cond_both, and_from, le-leb, ltb-false}
+use Rattle.std.proofs.lemmas.Bool.{cond_both, and_from, le-leb, ltb-false}
 use Rattle.std.proofs.lemmas.Bool.Decides.{nat_tests}
 use Rattle.c_token.specs.declared.words.Word.{Word}
 use Rattle.c_token.specs.declared.signs.Sign.{Sign}
 use Rattle.c_token.specs.declared.kinds.TokenError.{TokenError}
-use Rattle.c_token.specs.Lexemes.{Lexeme, name, number, word, sign, Placed}
+use Rattle.c_token.specs.Lexemes.{Lexeme, sign, Placed}
 use Rattle.c_token.specs.Words.{word_of}
 use Rattle.c_token.specs.Signs.{sign_of}
-use Rattle.c_token.specs.Spelling.{is_name_byte, is_name, is_decimal, is_hexadecimal, number_of, number_with, word_or_name, spelled, is_token}
+use Rattle.c_token.specs.Spelling.{is_name_byte, is_name, is_decimal, is_hexadecimal, number_with, word_or_name, spelled, is_token}
 use Rattle.c_token.specs.Tokens.{Front, is_blank, begins_with, close_of, has_leading_zero, longest, block_comment, judged, token_of_len, front_at, put_before, front_then, tokens_from, tokens_of}
 use Rattle.c_token.specs.Plain.{is_in_form, lexemes_of, TokensAreInForm}
 
