@@ -1,0 +1,182 @@
+-- What a program does, by its structure, over variables and arrays of words.
+use Rattle.std.specs.Prelude.{ℕ, zero, suc, cond, not, ◌==◌, List, [], ◌∷◌, Option, Some, None, slice_index}
+use Rattle.execution.specs.Traffic.{Entry, Traffic, traffic_from, after_check, after_suspension}
+use Rattle.aegis_num.specs.Operators.{truth, unary}
+use Rattle.c_meaning.specs.Tree.{Variable, Element, Expr, Number, Scalar, Indexed, Called, Input, Unary, Binary, Both, Either, Arguments, NoArguments, Argument, Stmt, Nothing, Then, Empty, Block, Local, Assign, Store, Call, Suspend, Release, Check, Return, Break, Continue, If, While, For, Function, Object, Program}
+use Rattle.c_meaning.specs.States.{Setting, State, End, Ended, Turns, Outcome, GoesOn, EndsAs, then, choose, tick, noting, read, write, within, applied, taking_input, releasing, begin_turn}
+
+-- how a statement is left: for the next one, by `break`, by `continue`, or by `return` with a value
+pub data Flow : Type 0 where
+  Next : Flow
+  Broke : Flow
+  Continued : Flow
+  Returned : (value : ℕ) → Flow
+
+-- behind a turn of a loop: it goes on, or it is left
+pub data Turn : Type 0 where
+  Again : Turn
+  Leaves : Flow → Turn
+
+-- what a call of a function does, by the token of the function and its arguments
+abbrev pub Calls : Type 0
+Calls = ℕ → List ℕ → State → Outcome ℕ
+
+-- the value of an operand of `&&` or `||`
+abbrev pub truth_of : ℕ → State → Outcome ℕ
+truth_of word state = GoesOn (truth (not (word == 0))) state
+
+-- Operands and arguments are evaluated from left to right, each expression for one unit of work. An index is tested before
+-- anything to its right is evaluated. The right side of `&&` and `||` is evaluated only where it decides.
+abbrev mutual
+  pub value : Setting → Calls → Expr → State → Outcome ℕ
+  value setting calls (Number word) state = GoesOn word (tick setting state)
+  value setting calls (Scalar x) state = read setting x 0 (tick setting state)
+  value setting calls (Indexed at x length index) state =
+      then (value setting calls index (tick setting state)) (λ i s. then (within at length i s) (read setting x))
+  value setting calls (Called function arguments) state =
+      then (values setting calls arguments (tick setting state)) (calls function)
+  value setting calls Input state = taking_input (tick setting state)
+  value setting calls (Unary op inner) state =
+      then (value setting calls inner (tick setting state)) (λ v s. GoesOn (unary op v) s)
+  value setting calls (Binary at op left right) state =
+      then (value setting calls left (tick setting state)) (λ v s. then (value setting calls right s) (applied at op v))
+  value setting calls (Both left right) state =
+      then (value setting calls left (tick setting state)) (λ v s. choose (v == 0) (GoesOn 0) (λ s'. then (value setting calls right s') truth_of) s)
+  value setting calls (Either left right) state =
+      then (value setting calls left (tick setting state)) (λ v s. choose (v == 0) (λ s'. then (value setting calls right s') truth_of) (GoesOn 1) s)
+
+  pub values : Setting → Calls → Arguments → State → Outcome (List ℕ)
+  values setting calls NoArguments state = GoesOn [] state
+  values setting calls (Argument first later) state =
+      then (value setting calls first state) (λ v s. then (values setting calls later s) (λ vs s'. GoesOn (v ∷ vs) s'))
+
+-- the value, or zero where there is none
+abbrev pub value_or_zero : Setting → Calls → Option Expr → State → Outcome ℕ
+value_or_zero setting calls None state = GoesOn 0 state
+value_or_zero setting calls (Some e) state = value setting calls e state
+
+-- a condition that does not stand holds
+abbrev pub condition : Setting → Calls → Option Expr → State → Outcome ℕ
+condition setting calls None state = GoesOn 1 state
+condition setting calls (Some e) state = value setting calls e state
+
+-- what stands behind a statement runs where that was left for the next one
+abbrev pub behind : (State → Outcome Flow) → Flow → State → Outcome Flow
+behind second Next state = second state
+behind second flow state = GoesOn flow state
+
+-- behind the body of a loop: `break` and `return` leave the loop, and else the step is made
+abbrev pub behind_body : (State → Outcome Flow) → Flow → State → Outcome Turn
+behind_body step Broke state = GoesOn (Leaves Next) state
+behind_body step (Returned v) state = GoesOn (Leaves (Returned v)) state
+behind_body step flow state = then (step state) (λ flow' s. GoesOn Again s)
+
+-- the condition, and where it holds a turn: it begins, then the body, then the step
+abbrev pub turn : Setting → (State → Outcome ℕ) → (State → Outcome Flow) → (State → Outcome Flow) → State → Outcome Turn
+turn setting test body step state =
+    then (test state) (λ v s. choose (v == 0) (GoesOn (Leaves Next)) (λ s'. then (begin_turn setting s'.turns s') (λ left s''. then (body s'') (behind_body step))) s)
+
+-- behind a turn
+abbrev pub behind_turn : (State → Outcome Flow) → Turn → State → Outcome Flow
+behind_turn again Again state = again state
+behind_turn again (Leaves flow) state = GoesOn flow state
+
+-- Turn after turn. There is one round more than turns that may begin, so a turn beyond the bound ends the run by itself, and
+-- the first case does not come.
+abbrev pub iterate : ℕ → (State → Outcome Turn) → State → Outcome Flow
+iterate zero one_turn state = EndsAs Turns state
+iterate (suc rounds) one_turn state = then (one_turn state) (behind_turn (iterate rounds one_turn))
+
+abbrev pub loop : (State → Outcome Turn) → State → Outcome Flow
+loop one_turn state = iterate (suc state.turns) one_turn state
+
+-- a statement that goes on to the next one
+abbrev pub next : State → Outcome Flow
+next state = GoesOn Next state
+
+-- each statement for one unit of work
+abbrev pub meaning : Setting → Calls → Stmt → State → Outcome Flow
+meaning setting calls Nothing state = next state
+meaning setting calls (Then first second) state = then (meaning setting calls first state) (behind (meaning setting calls second))
+meaning setting calls Empty state = next (tick setting state)
+meaning setting calls (Block body) state = meaning setting calls body (tick setting state)
+meaning setting calls (Local x e) state =
+    then (value_or_zero setting calls e (tick setting state)) (λ v s. next (write setting x 0 v s))
+meaning setting calls (Assign x e) state =
+    then (value setting calls e (tick setting state)) (λ v s. next (write setting x 0 v s))
+meaning setting calls (Store at x length index e) state =
+    then (value setting calls index (tick setting state)) (λ i s. then (within at length i s) (λ i' s'. then (value setting calls e s') (λ v s''. next (write setting x i' v s''))))
+meaning setting calls (Call function arguments) state =
+    then (values setting calls arguments (tick setting state)) (λ vs s. then (calls function vs s) (λ v s'. next s'))
+meaning setting calls Suspend state = next (noting setting after_suspension (tick setting state))
+meaning setting calls (Release e) state =
+    then (value setting calls e (tick setting state)) (λ v s. next (releasing v s))
+meaning setting calls Check state = next (noting setting after_check (tick setting state))
+meaning setting calls (Return e) state =
+    then (value_or_zero setting calls e (tick setting state)) (λ v s. GoesOn (Returned v) s)
+meaning setting calls Break state = GoesOn Broke (tick setting state)
+meaning setting calls Continue state = GoesOn Continued (tick setting state)
+meaning setting calls (If test body other) state =
+    then (value setting calls test (tick setting state)) (λ v s. choose (v == 0) (meaning setting calls other) (meaning setting calls body) s)
+meaning setting calls (While test body) state =
+    loop (turn setting (value setting calls test) (meaning setting calls body) next) (tick setting state)
+meaning setting calls (For first test step body) state =
+    then (meaning setting calls first (tick setting state)) (λ flow s. loop (turn setting (condition setting calls test) (meaning setting calls body) (meaning setting calls step)) s)
+
+-- the value of a call: what was returned, and 0 where the function runs to its end
+abbrev pub result_of : Flow → ℕ
+result_of (Returned v) = v
+result_of flow = 0
+
+-- the parameters get the arguments
+abbrev pub given : Setting → List Variable → List ℕ → State → State
+given setting [] words state = state
+given setting (x ∷ xs) [] state = state
+given setting (x ∷ xs) (word ∷ words) state = given setting xs words (write setting x 0 word state)
+
+-- a function is called, for one unit of work
+abbrev pub called : Setting → Calls → Function → List ℕ → State → Outcome ℕ
+called setting calls f words state =
+    then (meaning setting calls f.body (given setting f.parameters words (tick setting state))) (λ flow s. GoesOn (result_of flow) s)
+
+-- one function more can be called; its body calls those before it
+abbrev pub with_function : Setting → Calls → Function → Calls
+with_function setting calls f function words state = choose (f.token == function) (called setting calls f words) (calls function words) state
+
+-- there is no function yet
+abbrev pub no_calls : Calls
+no_calls function words state = GoesOn 0 state
+
+-- the calls of these functions, each behind those that it can call
+abbrev pub calls_of : Setting → Calls → List Function → Calls
+calls_of setting calls [] = calls
+calls_of setting calls (f ∷ functions) = calls_of setting (with_function setting calls f) functions
+
+-- the words that the objects start with, and zeros
+abbrev pub first_memory : List Object → ℕ → ℕ → ℕ
+first_memory [] variable index = 0
+first_memory (object ∷ objects) variable index = cond (object.variable.token == variable) (slice_index object.first index) (first_memory objects variable index)
+
+-- how a run ends, for how much work, and what has come and gone: the released bytes, the writes to shared variables, the counts of
+-- releases, checks and suspensions, and how many loose words were taken
+pub record Meaning : Type 0 where
+  pub end : End
+  pub work : ℕ
+  pub traffic : Traffic Element
+
+abbrev pub meaning_of : Outcome ℕ → Meaning
+meaning_of (GoesOn value state) = record { end = Ended; work = state.work; traffic = state.traffic }
+meaning_of (EndsAs end state) = record { end = end; work = state.work; traffic = state.traffic }
+
+abbrev pub first_state : Program → List ℕ → List (Entry Element) → ℕ → State
+first_state program input loose turns = record {
+  memory = first_memory program.objects;
+  turns = turns;
+  work = 0;
+  traffic = traffic_from input loose;
+}
+
+-- the program on this input and these loose words, with at most so many loop turns in all
+abbrev pub mean : Setting → Program → List ℕ → List (Entry Element) → ℕ → Meaning
+mean setting program input loose turns =
+    meaning_of (calls_of setting no_calls program.functions program.main [] (first_state program input loose turns))

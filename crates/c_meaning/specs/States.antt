@@ -1,0 +1,123 @@
+-- What a run of a program goes through, and the single things that it does.
+use Rattle.std.specs.Prelude.{ℕ, zero, suc, ◌+◌, Bool, true, false, cond, ◌==◌, ◌&&◌, nat_lt, Option, Some, None}
+use Rattle.execution.specs.Traffic.{Traffic, input_word, after_input, loose_word, after_loose, after_release, after_write}
+use Rattle.regions.specs.declared.rights.Class.{Class}
+use Rattle.regions.specs.declared.rights.Class.TheVariants.{Open}
+use Rattle.aegis_num.specs.declared.operators.BinaryOp.{BinaryOp}
+use Rattle.aegis_num.specs.Operators.{binary, traps}
+use Rattle.c_meaning.specs.Tree.{Variable, Element}
+
+-- which classes are loose, and whether work, checks, suspensions and shared writes are noted
+pub record Setting : Type 0 where
+  pub is_loose : Class → Bool
+  pub is_noted : Bool
+
+pub record State : Type 0 where
+  -- the word of each element of each variable
+  pub memory : ℕ → ℕ → ℕ
+  -- how many loop turns may still begin
+  pub turns : ℕ
+  -- how many nodes were evaluated, run, begun or called
+  pub work : ℕ
+  pub traffic : Traffic Element
+
+-- why a run is over: main has returned, an index is out of range at this token, a divisor is zero at this token, a loose read
+-- finds no entry of its own, or a loop turn would begin beyond the bound
+pub data End : Type 0 where
+  Ended : End
+  Index : (at : ℕ) → End
+  Divide : (at : ℕ) → End
+  Starved : End
+  Turns : End
+
+-- a value to go on with, or an end
+pub data Outcome (A : Type 0) : Type 0 where
+  GoesOn : A → State → Outcome A
+  EndsAs : End → State → Outcome A
+
+-- goes on with the value, unless the run is over
+abbrev pub then : {A B : Type 0} → Outcome A → (A → State → Outcome B) → Outcome B
+then (GoesOn value state) go = go value state
+then (EndsAs end state) go = EndsAs end state
+
+-- the state come to
+abbrev pub state_of : {A : Type 0} → Outcome A → State
+state_of (GoesOn value state) = state
+state_of (EndsAs end state) = state
+
+abbrev pub is_same_element : Element → Element → Bool
+is_same_element one other = one.variable == other.variable && one.index == other.index
+
+-- of no class, a local, nothing is loose
+abbrev pub is_in : (Class → Bool) → Option Class → Bool
+is_in test None = false
+is_in test (Some class) = test class
+
+abbrev pub is_open : Class → Bool
+is_open Open = true
+is_open class = false
+
+-- what a run goes on with where it is the first of two, by a test
+abbrev pub choose : {A : Type 0} → Bool → (State → Outcome A) → (State → Outcome A) → State → Outcome A
+choose true one other state = one state
+choose false one other state = other state
+
+-- one unit of work
+abbrev pub tick : Setting → State → State
+tick setting state = cond setting.is_noted (record state { work = state.work + 1 }) state
+
+-- the state with what has come and gone
+abbrev pub with_traffic : Traffic Element → State → State
+with_traffic traffic state = record state { traffic = traffic }
+
+-- the same, where it is noted
+abbrev pub noting : Setting → (Traffic Element → Traffic Element) → State → State
+noting setting change state = cond setting.is_noted (with_traffic (change state.traffic) state) state
+
+-- memory with one word changed
+abbrev pub changed : (ℕ → ℕ → ℕ) → ℕ → ℕ → ℕ → ℕ → ℕ → ℕ
+changed memory variable index word variable' index' = cond (variable == variable' && index == index') word (memory variable' index')
+
+-- the word of an element that is not loose
+abbrev pub kept : Variable → ℕ → State → Outcome ℕ
+kept x index state = GoesOn (state.memory x.token index) state
+
+-- a loose word, if the next entry is of this element
+abbrev pub loosely : Option ℕ → State → Outcome ℕ
+loosely None state = EndsAs Starved state
+loosely (Some word) state = GoesOn word (with_traffic (after_loose state.traffic) state)
+
+abbrev pub element_of : Variable → ℕ → Element
+element_of x index = record { variable = x.token; index = index }
+
+abbrev pub read : Setting → Variable → ℕ → State → Outcome ℕ
+read setting x index state =
+    choose (is_in setting.is_loose x.class) (λ s. loosely (loose_word is_same_element (element_of x index) s.traffic) s) (kept x index) state
+
+-- an element gets a word
+abbrev pub stored : Variable → ℕ → ℕ → State → State
+stored x index word state = record state { memory = changed state.memory x.token index word }
+
+-- the same, with a write to a shared variable noted
+abbrev pub write : Setting → Variable → ℕ → ℕ → State → State
+write setting x index word state =
+    cond (is_in is_open x.class) (noting setting (after_write (element_of x index) word) (stored x index word state)) (stored x index word state)
+
+-- the index has to be below the length
+abbrev pub within : (at length index : ℕ) → State → Outcome ℕ
+within at length index state = choose (nat_lt index length) (GoesOn index) (EndsAs (Index at)) state
+
+-- the divisor of an operator that divides has to be other than zero
+abbrev pub applied : (at : ℕ) → BinaryOp → ℕ → ℕ → State → Outcome ℕ
+applied at op left right state = choose (traps op right) (EndsAs (Divide at)) (GoesOn (binary op left right)) state
+
+abbrev pub taking_input : State → Outcome ℕ
+taking_input state = GoesOn (input_word state.traffic) (with_traffic (after_input state.traffic) state)
+
+abbrev pub releasing : ℕ → State → State
+releasing word state = with_traffic (after_release word state.traffic) state
+
+-- a loop turn begins
+abbrev pub begin_turn : Setting → ℕ → State → Outcome ℕ
+begin_turn setting zero state = EndsAs Turns state
+begin_turn setting (suc left) state = GoesOn left (tick setting (record state { turns = left }))

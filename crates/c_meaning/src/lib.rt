@@ -1,0 +1,6 @@
+//! What a program of the source language means.
+#![tactic(auto)]
+
+mod laws;
+
+pub use laws::counted;
