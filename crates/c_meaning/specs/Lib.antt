@@ -1,3 +1,6 @@
+pub mod LawProofs
+pub mod Laws
 pub mod Meaning
+pub mod Relating
 pub mod States
 pub mod Tree

@@ -176,7 +176,11 @@ first_state program input loose turns = record {
   traffic = traffic_from input loose;
 }
 
--- the program on this input and these loose words, with at most so many loop turns in all
+-- what main comes to on this input and these loose words, with at most so many loop turns in all
+abbrev pub outcome_of : Setting → Program → List ℕ → List (Entry Element) → ℕ → Outcome ℕ
+outcome_of setting program input loose turns =
+    calls_of setting no_calls program.functions program.main [] (first_state program input loose turns)
+
+-- the meaning of a program
 abbrev pub mean : Setting → Program → List ℕ → List (Entry Element) → ℕ → Meaning
-mean setting program input loose turns =
-    meaning_of (calls_of setting no_calls program.functions program.main [] (first_state program input loose turns))
+mean setting program input loose turns = meaning_of (outcome_of setting program input loose turns)

@@ -64,7 +64,7 @@ choose false one other state = other state
 
 -- one unit of work
 abbrev pub tick : Setting → State → State
-tick setting state = cond setting.is_noted (record state { work = state.work + 1 }) state
+tick setting state = record state { work = cond setting.is_noted (state.work + 1) state.work }
 
 -- the state with what has come and gone
 abbrev pub with_traffic : Traffic Element → State → State
@@ -72,7 +72,7 @@ with_traffic traffic state = record state { traffic = traffic }
 
 -- the same, where it is noted
 abbrev pub noting : Setting → (Traffic Element → Traffic Element) → State → State
-noting setting change state = cond setting.is_noted (with_traffic (change state.traffic) state) state
+noting setting change state = with_traffic (cond setting.is_noted (change state.traffic) state.traffic) state
 
 -- memory with one word changed
 abbrev pub changed : (ℕ → ℕ → ℕ) → ℕ → ℕ → ℕ → ℕ → ℕ → ℕ
@@ -94,14 +94,12 @@ abbrev pub read : Setting → Variable → ℕ → State → Outcome ℕ
 read setting x index state =
     choose (is_in setting.is_loose x.class) (λ s. loosely (loose_word is_same_element (element_of x index) s.traffic) s) (kept x index) state
 
--- an element gets a word
-abbrev pub stored : Variable → ℕ → ℕ → State → State
-stored x index word state = record state { memory = changed state.memory x.token index word }
-
--- the same, with a write to a shared variable noted
+-- an element gets a word; a write to a shared variable is noted
 abbrev pub write : Setting → Variable → ℕ → ℕ → State → State
-write setting x index word state =
-    cond (is_in is_open x.class) (noting setting (after_write (element_of x index) word) (stored x index word state)) (stored x index word state)
+write setting x index word state = record state {
+  memory = changed state.memory x.token index word;
+  traffic = cond (setting.is_noted && is_in is_open x.class) (after_write (element_of x index) word state.traffic) state.traffic;
+}
 
 -- the index has to be below the length
 abbrev pub within : (at length index : ℕ) → State → Outcome ℕ

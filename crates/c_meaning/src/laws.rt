@@ -1,8 +1,42 @@
 //! Laws of the meaning.
-ghost use Rattle.std.specs.Prelude.{◌≡◌};
-ghost use Rattle.c_meaning.specs.Meaning.{mean};
+ghost use Rattle.c_meaning.specs.Laws.{
+  FewerTurns,
+  FewerTurnsLessWork,
+  MoreTurns,
+  NotingChangesNothingElse,
+  OnlyAdds,
+  ReadsNoEntry,
+  TurnsAreUsed,
+};
 
-/// To be done.
-pub fn counted()
-    ensures { mean ≡ mean }
+/// Where a run ends with so many loop turns, it is the same with more.
+pub fn more_turns_change_nothing()
+    ensures same { MoreTurns }
+{}
+
+/// With fewer loop turns the released bytes, the writes to shared variables and the loose words taken are a prefix, and
+/// neither work nor a count is greater.
+pub fn fewer_turns_give_a_prefix()
+    ensures prefix { FewerTurns }
+    ensures work { FewerTurnsLessWork }
+{}
+
+/// A run ends for want of turns only where no turn is left.
+pub fn turns_are_used()
+    ensures used { TurnsAreUsed }
+{}
+
+/// A statement takes nothing back: bytes and writes come behind those before, and no count falls.
+pub fn statements_only_add()
+    ensures adds { OnlyAdds }
+{}
+
+/// Whether work, checks, suspensions and shared writes are noted changes nothing else.
+pub fn noting_changes_nothing_else()
+    ensures same { NotingChangesNothingElse }
+{}
+
+/// With no loose class no loose word is read, and the meaning is the same for any.
+pub fn no_loose_class_reads_no_entry()
+    ensures unread { ReadsNoEntry }
 {}
