@@ -1,10 +1,11 @@
 -- Reading a word by the layout of its opcode, and finding the row with the bits that are left.
--- The laws of `proofs/Words.antt` say that this undoes `word_of`; no public contract names it.
-use Rattle.std.specs.Prelude.{ℕ, ◌+◌, ◌-◌, ◌*◌, ◌/◌, ◌%◌, ◌^◌, ◌==◌, nat_lt, nat_le, cond, List, [], ◌∷◌, Option, None, Some, ℤ, pos, negsuc}
+-- The laws of `WordLaws.antt` say that this undoes `word_of`, and the clauses of `decode` that it gives each word its instruction.
+use Rattle.std.specs.Prelude.{ℕ, ◌+◌, ◌-◌, ◌*◌, ◌/◌, ◌%◌, ◌^◌, ◌==◌, nat_lt, nat_le, cond, List, [], ◌∷◌, Option, None, Some, option_and_then, ℤ, pos, negsuc}
 use Rattle.orbis_word.specs.declared.fields.Fields.{Fields}
 use Rattle.orbis_word.specs.declared.fields.Fields.TheVariants.{N, K, Dk, B, F, Dia, Dai, Dak, Dal, Iab, Dab, Ab}
 use Rattle.orbis_word.specs.declared.instruction.Instr.{Instr}
 use Rattle.orbis_word.specs.declared.instruction.Instr.TheVariants.{J, Jal, Bnf, Bf, Nop, Movhi, Jr, Cust1, Lwz, Lbz, Addi, Andi, Ori, Slli, Srli, Srai, Sw, Sb, Add, Sub, And, Or, Xor, Mul, Div, Divu, Sll, Srl, Sra, Sfeq, Sfne, Sfgtu, Sfgeu, Sfltu, Sfleu, Sfgts, Sfges, Sflts, Sfles}
+use Rattle.orbis_word.specs.Fields.{placed}
 use Rattle.orbis_word.specs.Table.{fixed_of}
 
 -- the number whose two's complement in so many bits this is
@@ -56,3 +57,7 @@ instructions_with (Ab a b) =
 abbrev pub with_fixed : ℕ → List Instr → Option Instr
 with_fixed fixed [] = None
 with_fixed fixed (i ∷ is) = cond (fixed_of i == fixed) (Some i) (with_fixed fixed is)
+
+-- the instruction that a word is, if it is one
+unfoldable pub instruction_in : ℕ → Option Instr
+instruction_in word = option_and_then (λ fields. with_fixed (word - placed fields) (instructions_with fields)) (fields_in (word / 2 ^ 26) word)

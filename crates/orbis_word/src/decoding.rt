@@ -1,6 +1,6 @@
 //! From words to instructions.
 ghost use Rattle.std.specs.Prelude.{◌≡◌, ℕ, ◌+◌, ◌*◌, ◌/◌, ◌%◌, ◌^◌, ◌<◌, IfSome, IfNone};
-ghost use Rattle.orbis_word.specs.Reading.{with_fixed, instructions_with};
+ghost use Rattle.orbis_word.specs.Reading.{with_fixed, instructions_with, instruction_in};
 ghost use Rattle.orbis_word.specs.Decoding.{IsWordOf, IsNoWord, IsRowOf, WordsAreApart};
 ghost use Rattle.orbis_word.specs.declared.fields.Fields.TheVariants.{N, K, Dk, B, F, Dia, Dai, Dak, Dal, Iab, Dab, Ab};
 
@@ -9,9 +9,13 @@ use crate::instruction::Instr;
 
 /// The instruction whose one word this is (OpenRISC 1000 Architecture Manual, section 5). There is none where no row
 /// has the opcode and the fixed bits, where a bit is set that is neither fixed nor of a field, or where `f` is above 10.
+#[tactic(auto, unfolding(crate::specs::Reading::instruction_in))]
 pub fn decode(word: u32) -> Option<Instr>
     ensures found { IfSome result (IsWordOf word) }
     ensures none { IfNone result (IsNoWord word) }
+
+    // The same as a function, for definitions of what words do.
+    ensures value { result ≡ instruction_in word }
 {
     match Fields::read(word) {
         Some(fields) => instruction_with(word - fields.place(), fields),

@@ -1,5 +1,6 @@
 //! The instruction table (OpenRISC 1000 Architecture Manual, section 5).
 ghost use Rattle.std.specs.Prelude.{◌≡◌, ℕ, ◌+◌, ◌*◌, ◌^◌};
+ghost use Rattle.orbis_word.specs.Reading.{instruction_in};
 ghost use Rattle.orbis_word.specs.Table.{row_of, fixed_of, IsInRange, word_of};
 
 use crate::fields::Fields;
@@ -83,7 +84,8 @@ pub(crate) fn row_of(instruction: Instr) -> Row
 /// below 32, `f` at most 10, and `n` from -2 ^ 25 to 2 ^ 25 - 1; each value of `k` and of `i` is in range.
 pub fn encode(i: Instr) -> u32
     requires { IsInRange i }
-    ensures { result ≡ word_of i }
+    ensures word { result ≡ word_of i }
+    ensures decoded { instruction_in result ≡ Some i }
 {
     let row = row_of(i);
     row.fixed + row.fields.place()

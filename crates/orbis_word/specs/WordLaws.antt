@@ -1,4 +1,4 @@
--- Reading a word by its layout undoes the spelling of each instruction.
+-- Reading a word by its layout undoes the spelling of each instruction; for proofs here and in the crates above.
 -- What holds of each row holds by computation; what holds of each layout is arithmetic, and is proved once a layout.
 use Rattle.std.proofs.Common.{◌≡◌, ℕ, ◌+◌, ◌-◌, ◌*◌, ◌/◌, ◌%◌, ◌^◌, ◌<◌, refl, sym, ◌∙◌, ap, Option, Some, None, IfNone, arith, ℤ, pos, negsuc}
 use Rattle.orbis_word.specs.declared.fields.Fields.{Fields}
@@ -8,7 +8,7 @@ use Rattle.orbis_word.specs.declared.instruction.Instr.TheVariants.{J}
 use Rattle.orbis_word.specs.Fields.{complement, FitsComplement, placed, AreInRange}
 use Rattle.orbis_word.specs.Table.{word_of, row_of, fixed_of, IsInRange}
 use Rattle.orbis_word.specs.Decoding.{IsNoWord}
-use Rattle.orbis_word.specs.Reading.{signed, secure, fields_in, instructions_with, with_fixed}
+use Rattle.orbis_word.specs.Reading.{signed, secure, fields_in, instructions_with, with_fixed, instruction_in}
 
 -- the fields that a word has under the layout of some fields
 abbrev reading : Fields → ℕ → Option Fields
@@ -150,6 +150,11 @@ row-word_of word fields read i r e =
     let same : fields ≡ (row_of i).fields = cc in
     let rest : fixed_of i + placed (row_of i).fields - placed (row_of i).fields ≡ fixed_of i = omega arith in
     rw (same, e, rest) (own_row i)
+
+-- the word of an instruction is read as this instruction
+pub instruction_in-word_of : (i : Instr) → IsInRange i → instruction_in (word_of i) ≡ Some i
+unfolding instruction_in
+instruction_in-word_of i r = rw (fields_in-word_of i r) (row-word_of (word_of i) (row_of i).fields (fields_in-word_of i r) i r refl)
 
 -- where that finds no row, the word is that of no instruction
 pub no_row : (word bits : ℕ) (fields : Fields) (result : Option Instr) → Some fields ≡ fields_in (word / 2 ^ 26) word → bits ≡ placed fields
