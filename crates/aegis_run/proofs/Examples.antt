@@ -1,5 +1,5 @@
 -- The definitions on worked examples.
-use Rattle.std.proofs.Common.{◌≡◌, ℕ, true, false, List, [], ◌∷◌, ◌++◌, None, Some, refl, ap, arith}
+use Rattle.std.proofs.Common.{◌≡◌, ℕ, true, false, List, [], ◌∷◌, ◌++◌, replicate, None, Some, refl, ap, arith}
 use Rattle.std.specs.Prelude.{codes}
 use Rattle.std.proofs.lemmas.Fmt.{decimal_digit}
 use Rattle.aegis_run.specs.declared.ends.File.TheVariants.{Source, Script, Input}
@@ -58,7 +58,7 @@ no_fuel = refl
 low_byte : released (328 ∷ []) ≡ 72 ∷ []
 low_byte = refl
 
-code_of_one : code_of (65608 ∷ []) ≡ 0x18600001 ∷ 0xa8630048 ∷ 0x70000006 ∷ 0x70000001 ∷ []
+code_of_one : code_of (65608 ∷ []) ≡ 0x18600001 ∷ 0xa8630048 ∷ 0x70000006 ∷ 0x70000001 ∷ replicate 12 0x15000000
 code_of_one = refl
 
 line_of_run : line_of (Run Ended) 7 ≡ codes "ended retired 7 events 0\n"

@@ -1,17 +1,23 @@
 -- A run over flat memory follows what the code does.
-use Rattle.std.proofs.Common.{◌≡◌, ℕ, suc, ◌+◌, ◌-◌, ◌<◌, ◌≤◌, List, [], ◌∷◌, ◌++◌, length, take, drop, Option, None, Some, refl, sym, ◌∙◌, ap, subst, arith, append_assoc, append-nil}
+use Rattle.std.proofs.Common.{◌≡◌, ℕ, suc, ◌+◌, ◌-◌, ◌<◌, ◌≤◌, ◌/◌, List, [], ◌∷◌, ◌++◌, length, take, drop, Option, None, Some, refl, sym, ◌∙◌, ap, subst, inl, inr, arith, append_assoc, append-nil}
 use Rattle.std.proofs.Math.Seq.{take-append_seam}
+use Rattle.std.proofs.lemmas.Bool.{cases_lt}
 use Rattle.std.proofs.lemmas.List.{take-append-drop}
 use Rattle.aegis_edge.specs.Sink.{Appends, AppendsFront}
-use Rattle.orbis_core.specs.declared.Instr.{Instr}
-use Rattle.orbis_core.specs.declared.Stop.{Stop}
+use Rattle.orbis_word.specs.declared.Instr.{Instr}
+use Rattle.orbis_core.specs.declared.Effect.{Effect}
+use Rattle.orbis_core.specs.declared.Effect.TheVariants.{Proceed, Write, Compare, Jump, Link, LoadWord, LoadByte, StoreWord, StoreByte, DivideByZero, Secure}
+use Rattle.orbis_core.specs.Accesses.{Accesses}
+use Rattle.orbis_core.specs.Effects.{effect_of}
+use Rattle.orbis_core.specs.StepLaws.{Carries-fetched}
 use Rattle.orbis_core.specs.declared.StepEnd.{StepEnd}
-use Rattle.orbis_core.specs.declared.StepEnd.TheVariants.{Next, Released, Exit, Stopped}
-use Rattle.orbis_core.specs.FlatMemory.{flat_accesses, fetched}
+use Rattle.orbis_core.specs.declared.StepEnd.TheVariants.{Next, Released, Exit}
+use Rattle.orbis_core.specs.FlatMemory.{Flat, flat_accesses, flat_of}
+use Rattle.orbis_core.specs.FlatLaws.{bytes_of}
+use Rattle.regions.specs.declared.Layout.{Layout}
 use Rattle.orbis_core.specs.Processor.{Processor}
-use Rattle.orbis_core.specs.Rows.{Machine, IsRow, Steps, core_after}
-use Rattle.orbis_core.proofs.StepLemmas.{IsRow-fetched}
-use Rattle.aegis_run.specs.Code.{RunsTo, GoesOn}
+use Rattle.orbis_core.specs.Rows.{Machine, Carries, Leaves, Steps}
+use Rattle.aegis_run.specs.Code.{HoldsCode, RunsTo, GoesOn, IsStraight, straight_end, straight_core}
 
 -- nothing is appended by nothing
 pub Appends-nothing : (old : Option (List ℕ)) → Appends old old []
@@ -42,66 +48,100 @@ AppendsFront-next (Some old) mid new sent piece rest first second =
     (length (sent ++ front), last.1 ∙ ap Some (append_assoc old sent front ∙ ap (λ l. old ++ l) (sym cut)))
 
 -- what was sent so far, and what the processor still releases
-pub record Progress (code : List ℕ) (index : ℕ) (core : Processor) (old now : Option (List ℕ)) (bytes : List ℕ) : Type 0 where
+pub record Progress (memory : Flat) (steps index : ℕ) (core : Processor) (old now : Option (List ℕ)) (bytes : List ℕ) : Type 0 where
   pub sent : List ℕ
   pub left : List ℕ
   pub split : bytes ≡ sent ++ left
   pub taken : Appends old now sent
-  pub runs : RunsTo code (length code - index) core left
+  pub runs : RunsTo memory (steps - index) core left
+
+-- a step of straight-line code leaves memory and port alone
+straight : {M : Type 0} (accesses : Accesses M) (effect : Effect) (old new : Machine M) (end : StepEnd) → IsStraight effect → Carries accesses effect old end new
+    → Leaves (straight_end effect old.core) (straight_core effect old.core) old.port old end new
+straight accesses (Write d value) old new end is row = row
+straight {M} accesses (Secure f) old new end is row =
+    let P : ℕ → Type 0 = λ f. Carries accesses (Secure f) old end new → Leaves (straight_end (Secure f) old.core) (straight_core (Secure f) old.core) old.port old end new in
+    elim is [ inl six ↦ subst P (sym six) (λ r. r) row | inr one ↦ subst P (sym one) (λ r. r) row ]
+straight accesses Proceed old new end is row = absurd is
+straight accesses (Compare flag) old new end is row = absurd is
+straight accesses (Jump to) old new end is row = absurd is
+straight accesses (Link to) old new end is row = absurd is
+straight accesses (LoadWord d at) old new end is row = absurd is
+straight accesses (LoadByte d at) old new end is row = absurd is
+straight accesses (StoreWord at word) old new end is row = absurd is
+straight accesses (StoreByte at byte) old new end is row = absurd is
+straight accesses DivideByZero old new end is row = absurd is
 
 -- a step of code that goes on so
-pub record Follows (code : List ℕ) (steps : ℕ) (bytes : List ℕ) (old new : Machine (List ℕ)) (end : StepEnd) : Type 0 where
+pub record Follows (steps : ℕ) (bytes : List ℕ) (old new : Machine Flat) (end : StepEnd) : Type 0 where
   pub memory : new.memory ≡ old.memory
   pub port : new.port ≡ old.port
-  pub goes_on : GoesOn end (RunsTo code steps new.core) steps bytes
+  pub goes_on : GoesOn end (RunsTo new.memory steps new.core) steps bytes
 
 -- a step over flat memory is the one that the code makes
-pub follows : (code : List ℕ) (steps : ℕ) (bytes : List ℕ) (old new : Machine (List ℕ)) (end : StepEnd) → old.memory ≡ code
-    → RunsTo code (suc steps) old.core bytes → Steps flat_accesses old end new → Follows code steps bytes old new end
-follows code steps bytes old new end holds runs step =
+pub follows : (steps : ℕ) (bytes : List ℕ) (old new : Machine Flat) (end : StepEnd)
+    → RunsTo old.memory (suc steps) old.core bytes → Steps flat_accesses old end new → Follows steps bytes old new end
+follows steps bytes old new end runs step =
     let instruction : Instr = runs.0 in
-    let row : IsRow instruction old end new = IsRow-fetched flat_accesses instruction old new end runs.1
-    (λ answer middle fetch. (fetch.0 ∙ ap (λ memory. fetched memory old.core.pc) holds ∙ runs.2, fetch.1)) step in
-    let P : StepEnd → Type 0 = λ e. GoesOn e (RunsTo code steps (core_after instruction old.core)) steps bytes in
-    let Q : Processor → Type 0 = λ core. GoesOn end (RunsTo code steps core) steps bytes in
+    let effect : Effect = effect_of instruction old.core in
+    let row : Leaves (straight_end effect old.core) (straight_core effect old.core) old.port old end new =
+    straight flat_accesses effect old new end runs.2
+    (Carries-fetched flat_accesses instruction old new end runs.1.in_range (λ answer middle fetch. (fetch.0 ∙ runs.1.word, fetch.1)) step) in
+    let P : StepEnd → Type 0 = λ e. GoesOn e (RunsTo old.memory steps (straight_core effect old.core)) steps bytes in
+    let Q : Processor → Type 0 = λ core. GoesOn end (RunsTo old.memory steps core) steps bytes in
+    let R : Flat → Type 0 = λ memory. GoesOn end (RunsTo memory steps new.core) steps bytes in
     record {
       memory = row.memory;
       port = row.port;
-      goes_on = subst Q (sym row.core) (subst P (sym row.ends) runs.3);
+      goes_on = subst R (sym row.memory) (subst Q (sym row.core) (subst P (sym row.ends) runs.3));
     }
 
+-- what still runs has a step left
+still_runs : (memory : Flat) (steps index : ℕ) (core : Processor) (bytes : List ℕ) → RunsTo memory (steps - index) core bytes → index < steps
+still_runs memory steps index core bytes runs =
+    elim (cases_lt index steps) [
+      | inl below ↦ below
+      | inr above ↦
+          let none : steps - index ≡ 0 = omega arith in
+          let P : ℕ → Type 0 = λ left. RunsTo memory left core bytes in
+          absurd (subst P none runs)
+    ]
+
 -- behind a step the processor still releases what is left
-pub record Left (code : List ℕ) (index : ℕ) (old new : Machine (List ℕ)) (end : StepEnd) (before now : Option (List ℕ)) (bytes : List ℕ) : Type 0 where
+pub record Left (steps index : ℕ) (old new : Machine Flat) (end : StepEnd) (before now : Option (List ℕ)) (bytes : List ℕ) : Type 0 where
   pub sent : List ℕ
   pub left : List ℕ
   pub split : bytes ≡ sent ++ left
   pub taken : Appends before now sent
-  pub follows : Follows code (length code - (index + 1)) left old new end
+  pub below : index < steps
+  pub follows : Follows (steps - (index + 1)) left old new end
 
 -- a step goes on from where the run is
-pub steps_on : (code : List ℕ) (index : ℕ) (old new : Machine (List ℕ)) (end : StepEnd) (before now : Option (List ℕ)) (bytes : List ℕ)
-    → index < length code → old.memory ≡ code → Steps flat_accesses old end new → Progress code index old.core before now bytes → Left code index old new end before now bytes
-steps_on code index old new end before now bytes below holds step progress =
-    let one : length code - index ≡ suc (length code - (index + 1)) = omega arith in
-    let P : ℕ → Type 0 = λ steps. RunsTo code steps old.core progress.left in
+pub steps_on : (steps index : ℕ) (old new : Machine Flat) (end : StepEnd) (before now : Option (List ℕ)) (bytes : List ℕ)
+    → Steps flat_accesses old end new → Progress old.memory steps index old.core before now bytes → Left steps index old new end before now bytes
+steps_on steps index old new end before now bytes step progress =
+    let below : index < steps = still_runs old.memory steps index old.core progress.left progress.runs in
+    let one : steps - index ≡ suc (steps - (index + 1)) = omega arith in
+    let P : ℕ → Type 0 = λ left. RunsTo old.memory left old.core progress.left in
     record {
       sent = progress.sent;
       left = progress.left;
       split = progress.split;
       taken = progress.taken;
-      follows = follows code (length code - (index + 1)) progress.left old new end holds (subst P one progress.runs) step;
+      below = below;
+      follows = follows (steps - (index + 1)) progress.left old new end (subst P one progress.runs) step;
     }
 
 -- an instruction that releases nothing
-pub after_next : (code : List ℕ) (index : ℕ) (old new : Machine (List ℕ)) (before now : Option (List ℕ)) (bytes : List ℕ)
-    → Left code index old new Next before now bytes → Progress code (index + 1) new.core before now bytes
-after_next code index old new before now bytes left =
+pub after_next : (steps index : ℕ) (old new : Machine Flat) (before now : Option (List ℕ)) (bytes : List ℕ)
+    → Left steps index old new Next before now bytes → Progress new.memory steps (index + 1) new.core before now bytes
+after_next steps index old new before now bytes left =
     record { sent = left.sent; left = left.left; split = left.split; taken = left.taken; runs = left.follows.goes_on }
 
 -- a byte that was released and taken
-pub after_release : (code : List ℕ) (index byte : ℕ) (old new : Machine (List ℕ)) (before mid now : Option (List ℕ)) (bytes : List ℕ)
-    → Left code index old new (Released byte) before mid bytes → Appends mid now (byte ∷ []) → Progress code (index + 1) new.core before now bytes
-after_release code index byte old new before mid now bytes left took =
+pub after_release : (steps index byte : ℕ) (old new : Machine Flat) (before mid now : Option (List ℕ)) (bytes : List ℕ)
+    → Left steps index old new (Released byte) before mid bytes → Appends mid now (byte ∷ []) → Progress new.memory steps (index + 1) new.core before now bytes
+after_release steps index byte old new before mid now bytes left took =
     let later = left.follows.goes_on in
     record {
       sent = left.sent ++ byte ∷ [];
@@ -112,30 +152,49 @@ after_release code index byte old new before mid now bytes left took =
     }
 
 -- a byte that was released and not taken
-pub after_fault : (code : List ℕ) (index byte : ℕ) (old new : Machine (List ℕ)) (before mid now : Option (List ℕ)) (bytes : List ℕ)
-    → Left code index old new (Released byte) before mid bytes → AppendsFront mid now (byte ∷ []) → AppendsFront before now bytes
-after_fault code index byte old new before mid now bytes left took =
+pub after_fault : (steps index byte : ℕ) (old new : Machine Flat) (before mid now : Option (List ℕ)) (bytes : List ℕ)
+    → Left steps index old new (Released byte) before mid bytes → AppendsFront mid now (byte ∷ []) → AppendsFront before now bytes
+after_fault steps index byte old new before mid now bytes left took =
     let later = left.follows.goes_on in
     let P : List ℕ → Type 0 = λ all. AppendsFront before now all in
     subst P (sym (left.split ∙ ap (λ l. left.sent ++ l) later.1)) (AppendsFront-next before mid now left.sent (byte ∷ []) later.0 left.taken took)
 
--- the exit: everything was sent, and this was the last instruction
-pub after_exit : (code : List ℕ) (index : ℕ) (old new : Machine (List ℕ)) (before now : Option (List ℕ)) (bytes : List ℕ)
-    → Left code index old new Exit before now bytes → Appends before now bytes × (length code - (index + 1) ≡ 0)
-after_exit code index old new before now bytes left =
+-- the exit: everything was sent, and this was the last step
+pub after_exit : (steps index : ℕ) (old new : Machine Flat) (before now : Option (List ℕ)) (bytes : List ℕ)
+    → Left steps index old new Exit before now bytes → Appends before now bytes × (index + 1 ≡ steps)
+after_exit steps index old new before now bytes left =
     let done = left.follows.goes_on in
+    let below : index < steps = left.below in
+    let last : steps - (index + 1) ≡ 0 = done.1 in
     let P : List ℕ → Type 0 = λ all. Appends before now all in
-    (subst P (sym (left.split ∙ ap (λ l. left.sent ++ l) done.0 ∙ append-nil left.sent)) left.taken, done.1)
+    (subst P (sym (left.split ∙ ap (λ l. left.sent ++ l) done.0 ∙ append-nil left.sent)) left.taken, omega arith)
 
--- a step of such code is not stopped
-pub never_stopped : (code : List ℕ) (index : ℕ) (stop : Stop) (old new : Machine (List ℕ)) (before now : Option (List ℕ)) (bytes : List ℕ)
-    → Left code index old new (Stopped stop) before now bytes → ⊥
-never_stopped code index stop old new before now bytes left = left.follows.goes_on
+-- behind the last step nothing runs
+pub never_behind : (memory : Flat) (steps index : ℕ) (core : Processor) (before now : Option (List ℕ)) (bytes : List ℕ)
+    → steps ≤ index → Progress memory steps index core before now bytes → ⊥
+never_behind memory steps index core before now bytes behind progress =
+    let below : index < steps = still_runs memory steps index core progress.left progress.runs in
+    absurd (omega arith)
 
--- behind the last word nothing runs
-pub never_behind : (code : List ℕ) (index : ℕ) (core : Processor) (before now : Option (List ℕ)) (bytes : List ℕ)
-    → length code ≤ index → Progress code index core before now bytes → ⊥
-never_behind code index core before now bytes behind progress =
-    let none : length code - index ≡ 0 = omega arith in
-    let P : ℕ → Type 0 = λ steps. RunsTo code steps core progress.left in
-    subst P none progress.runs
+-- a step of such code ends in no other way
+no_other : (end : StepEnd) (later : List ℕ → Type 0) (steps : ℕ) (bytes : List ℕ) → GoesOn end later steps bytes → (end ≡ Next → ⊥) → ((byte : ℕ) → end ≡ Released byte → ⊥) → (end ≡ Exit → ⊥) → ⊥
+no_other Next later steps bytes goes next released exits = next refl
+no_other (Released byte) later steps bytes goes next released exits = released byte refl
+no_other Exit later steps bytes goes next released exits = exits refl
+no_other end later steps bytes goes next released exits = goes
+
+pub never_else : (steps index : ℕ) (old new : Machine Flat) (end : StepEnd) (before now : Option (List ℕ)) (bytes : List ℕ) → Left steps index old new end before now bytes
+    → (end ≡ Next → ⊥) → ((byte : ℕ) → end ≡ Released byte → ⊥) → (end ≡ Exit → ⊥) → ⊥
+never_else steps index old new end before now bytes left next released exits =
+    no_other end (RunsTo new.memory (steps - (index + 1)) new.core) (steps - (index + 1)) left.left left.follows.goes_on next released exits
+
+-- a memory of these bytes holds the code
+pub holds_code : (memory : Flat) (layout : Layout) (statics code : List ℕ) → memory ≡ flat_of layout statics → statics ≡ bytes_of code
+    → layout.verified ≡ 0 → layout.private ≡ 0 → layout.constants ≡ 0 → layout.code ≡ length code / 16 → HoldsCode memory code
+holds_code memory layout statics code is same verified private constants blocks = record {
+  verified = ap (λ m. m.layout.verified) is ∙ verified;
+  private = ap (λ m. m.layout.private) is ∙ private;
+  constants = ap (λ m. m.layout.constants) is ∙ constants;
+  blocks = ap (λ m. m.layout.code) is ∙ blocks;
+  filled = is ∙ ap (λ s. flat_of layout s) same ∙ ap (λ l. flat_of l (bytes_of code)) (sym (ap (λ m. m.layout) is));
+}

@@ -1,45 +1,92 @@
 -- The compiled code of a source, and what the processor does on code alone.
-use Rattle.std.specs.Prelude.{◌≡◌, ℕ, zero, suc, ◌/◌, ◌%◌, List, [], ◌∷◌, ◌++◌, map, false, replicate, Option, Ok}
+use Rattle.std.specs.Prelude.{◌≡◌, ◌⊎◌, ℕ, zero, suc, ◌-◌, ◌/◌, ◌%◌, List, [], ◌∷◌, ◌++◌, length, map, false, replicate, Option, Ok}
 use Rattle.std.specs.List.{flat_map}
 use Rattle.aegis_edge.specs.Sink.{Appends, AppendsFront}
 use Rattle.aegis_run.specs.declared.ends.End.{End}
 use Rattle.aegis_run.specs.declared.ends.End.TheVariants.{Ended, WriteFault}
 use Rattle.aegis_run.specs.declared.ends.TopEnd.{TopEnd}
 use Rattle.aegis_run.specs.declared.ends.TopEnd.TheVariants.{Run, OutOfMemory}
-use Rattle.orbis_core.specs.declared.Instr.{Instr}
-use Rattle.orbis_core.specs.declared.Instr.TheVariants.{Movhi, Ori, Cust1}
-use Rattle.orbis_core.specs.declared.flat_memory.TheConstants.{CODE_START}
+use Rattle.orbis_word.specs.declared.Instr.{Instr}
+use Rattle.orbis_word.specs.declared.Instr.TheVariants.{Movhi, Nop, Ori, Cust1}
+use Rattle.orbis_word.specs.Table.{IsInRange, word_of}
+use Rattle.regions.specs.declared.Access.TheVariants.{Fetch}
+use Rattle.regions.specs.declared.Mode.TheVariants.{Ptr}
+use Rattle.regions.specs.Addresses.{tree_start}
+use Rattle.orbis_core.specs.declared.Effect.{Effect}
+use Rattle.orbis_core.specs.declared.Effect.TheVariants.{Write, Secure}
 use Rattle.orbis_core.specs.declared.StepEnd.{StepEnd}
-use Rattle.orbis_core.specs.declared.StepEnd.TheVariants.{Next, Released, Exit, Stopped}
-use Rattle.orbis_core.specs.FlatMemory.{fetched}
-use Rattle.orbis_core.specs.Instruction.{IsInRange, word_of}
-use Rattle.orbis_core.specs.Processor.{Processor}
-use Rattle.orbis_core.specs.Rows.{core_after, end_of}
+use Rattle.orbis_core.specs.declared.StepEnd.TheVariants.{Next, Released, Exit}
+use Rattle.orbis_core.specs.Effects.{effect_of}
+use Rattle.orbis_core.specs.FlatLaws.{bytes_of}
+use Rattle.orbis_core.specs.FlatMemory.{Flat, flat_of, word_at}
+use Rattle.orbis_core.specs.Processor.{Processor, advanced, core_behind}
+use Rattle.orbis_core.specs.Refusals.{answered, word_refusal}
+use Rattle.orbis_core.specs.Secure.{secure_end, secure_of}
 
 -- a literal is put into r3 in two halves, and its low byte is released
 abbrev pub release_code : ℕ → List ℕ
 release_code literal = map word_of (Movhi 3 (literal / 65536) ∷ Ori 3 3 (literal % 65536) ∷ Cust1 6 ∷ [])
 
--- the code of a source that releases these literals: each in turn, and then the exit
+-- the program of a source that releases these literals: each in turn, and then the exit
+abbrev pub program_of : List ℕ → List ℕ
+program_of literals = flat_map release_code literals ++ word_of (Cust1 1) ∷ []
+
+-- how many words of the last block are left
+abbrev pub words_left : ℕ → ℕ
+words_left count = (16 - count % 16) % 16
+
+-- the code fills whole blocks, the last one with instructions that do nothing
 abbrev pub code_of : List ℕ → List ℕ
-code_of literals = flat_map release_code literals ++ word_of (Cust1 1) ∷ []
+code_of literals = program_of literals ++ replicate (words_left (length (program_of literals))) (word_of (Nop 0))
+
+-- the memory holds this code, in blocks of code alone
+pub record HoldsCode (memory : Flat) (code : List ℕ) : Type 0 where
+  pub verified : memory.layout.verified ≡ 0
+  pub private : memory.layout.private ≡ 0
+  pub constants : memory.layout.constants ≡ 0
+  pub blocks : memory.layout.code ≡ length code / 16
+  pub filled : memory ≡ flat_of memory.layout (bytes_of code)
 
 -- the processor before its first instruction
 abbrev pub reset : Processor
-reset = record { pc = CODE_START; flag = false; registers = replicate 32 0 }
+reset = record { pc = tree_start; flag = false; registers = replicate 32 0 }
+
+-- an effect that straight-line code has: a register is written, or the program releases a byte or exits
+abbrev pub IsStraight : Effect → Type 0
+IsStraight (Write d value) = Unit {0}
+IsStraight (Secure f) = (f ≡ 6) ⊎ (f ≡ 1)
+IsStraight effect = ⊥
+
+-- how a step of such an effect ends, and the processor behind it
+abbrev pub straight_end : Effect → Processor → StepEnd
+straight_end (Secure f) core = secure_end (secure_of f) core
+straight_end effect core = Next
+
+abbrev pub straight_core : Effect → Processor → Processor
+straight_core (Secure f) core = advanced core
+straight_core effect core = core_behind effect core
+
+-- the memory answers a fetch at the program counter by the word of this instruction
+pub record Fetches (memory : Flat) (core : Processor) (instruction : Instr) : Type 0 where
+  pub in_range : IsInRange instruction
+  pub word : answered (word_refusal memory.layout Ptr Fetch core.pc) (word_at memory core.pc) ≡ Ok (word_of instruction)
 
 -- what is left to release, and in how many steps, behind a step that ends so
 abbrev pub GoesOn : StepEnd → (List ℕ → Type 0) → ℕ → List ℕ → Type 0
 GoesOn Next later steps bytes = later bytes
 GoesOn (Released byte) later steps bytes = (rest : List ℕ) × (bytes ≡ byte ∷ rest) × later rest
 GoesOn Exit later steps bytes = (bytes ≡ []) × (steps ≡ 0)
-GoesOn (Stopped stop) later steps bytes = ⊥
+GoesOn end later steps bytes = ⊥
 
 -- from this state the processor releases these bytes in order, and exits, in so many steps
-abbrev pub RunsTo : List ℕ → ℕ → Processor → List ℕ → Type 0
-RunsTo code zero core bytes = ⊥
-RunsTo code (suc steps) core bytes = (instruction : Instr) × IsInRange instruction × (fetched code core.pc ≡ Ok (word_of instruction))
-    × GoesOn (end_of instruction core) (RunsTo code steps (core_after instruction core)) steps bytes
+abbrev pub RunsTo : Flat → ℕ → Processor → List ℕ → Type 0
+RunsTo memory zero core bytes = ⊥
+RunsTo memory (suc steps) core bytes = (instruction : Instr) × Fetches memory core instruction × IsStraight (effect_of instruction core)
+    × GoesOn (straight_end (effect_of instruction core) core) (RunsTo memory steps (straight_core (effect_of instruction core) core)) steps bytes
+
+-- on a memory that holds the code, the processor releases these bytes from its start, and exits, in so many steps
+abbrev pub CodeRunsTo : List ℕ → ℕ → List ℕ → Type 0
+CodeRunsTo code steps bytes = (memory : Flat) → HoldsCode memory code → RunsTo memory steps reset bytes
 
 -- what a run that ended so put into a sink, of the bytes that the program releases: all of them, or a front
 abbrev pub Delivers : End → Option (List ℕ) → Option (List ℕ) → List ℕ → Type 0

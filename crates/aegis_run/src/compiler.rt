@@ -1,8 +1,9 @@
 //! The compiler: from the literals that a source releases to instruction words.
-ghost use Rattle.std.specs.Prelude.{◌≡◌, IfOk};
+ghost use Rattle.std.specs.Prelude.{◌≡◌, ◌*◌, ◌≤◌, length, IfOk};
 ghost use Rattle.aegis_run.specs.Code.{release_code, code_of};
 
 use aegis_num::OutOfMemory;
+use aegis_num::limits::MAX_SOURCE_BYTES;
 use std::alloc::Global;
 
 /// `l.movhi r3,0`
@@ -17,8 +18,15 @@ const RELEASE: u32 = 0x7000_0006;
 /// `l.cust1 1`, which ends the program.
 const EXIT: u32 = 0x7000_0001;
 
-/// The code of a source that releases these literals.
+/// `l.nop 0`, which does nothing.
+const NOTHING: u32 = 0x1500_0000;
+
+/// How many words a block of code has.
+const BLOCK_WORDS: usize = 16;
+
+/// The code of a source that releases these literals, in whole blocks.
 pub fn compile(alloc: Global, literals: &[u32]) -> Result<Vec<u32>, OutOfMemory>
+    requires { 11 * length literals.now ≤ MAX_SOURCE_BYTES }
     ensures { IfOk result (λ code. code.items ≡ code_of literals.now) }
 {
     let mut code = Vec::new(alloc);
@@ -26,6 +34,8 @@ pub fn compile(alloc: Global, literals: &[u32]) -> Result<Vec<u32>, OutOfMemory>
         code.extend_from_slice(&release_words(*literal))?;
     }
     code.push(EXIT)?;
+    let whole = code.len().next_multiple_of(BLOCK_WORDS);
+    code.resize(whole, NOTHING)?;
     Ok(code)
 }
 

@@ -1,13 +1,15 @@
 //! The run: the processor steps compiled code until its exit, and each released byte goes to the
 //! sink at once.
-ghost use Rattle.std.specs.Prelude.{◌≡◌, ℕ, ◌≤◌, List, None, length, IfOk, OnErr};
+ghost use Rattle.std.specs.Prelude.{◌≡◌, ℕ, ◌*◌, ◌%◌, ◌≤◌, List, None, length, IfOk, OnErr};
 ghost use Rattle.aegis_edge.specs.Faults.{Rose};
-ghost use Rattle.aegis_run.specs.Code.{reset, RunsTo, Delivers};
+ghost use Rattle.orbis_core.specs.FlatLaws.{bytes_of};
+ghost use Rattle.aegis_run.specs.Code.{CodeRunsTo, Delivers, HoldsCode};
 
 use crate::ends::End;
 use aegis_edge::Sink;
 use aegis_num::OutOfMemory;
-use orbis_core::{CODE_START, Core, FlatMemory, MAX_CODE_WORDS, Port, StepEnd, step};
+use orbis_core::{Core, FlatMemory, Port, StepEnd, step};
+use regions::{Layout, MAX_DATA_BLOCKS, TREE_START};
 use std::alloc::Global;
 
 /// How a run ended, and behind how many instructions.
@@ -17,7 +19,7 @@ pub struct Ran {
     pub retired: u64,
 }
 
-/// Runs straight-line code from its first word until its exit, which is its last word.
+/// Runs straight-line code from its first word until its exit. The code fills whole blocks of 16 words.
 pub fn run<K: Sink>(
     alloc: Global,
     code: &[u32],
@@ -25,22 +27,25 @@ pub fn run<K: Sink>(
     out: &mut K,
 ) -> Result<Ran, OutOfMemory>
     requires unlimited { K.limit out.old ≡ None }
-    requires short { length code.now ≤ MAX_CODE_WORDS }
-    requires straight { (bytes : List ℕ) × RunsTo code.now (length code.now) reset bytes }
+    requires whole { length code.now % 16 ≡ 0 }
+    requires short { length code.now ≤ 16 * MAX_DATA_BLOCKS }
+    requires straight { (steps : ℕ) × (bytes : List ℕ) × (steps ≤ length code.now)
+        × CodeRunsTo code.now steps bytes }
 
-    ensures delivered { IfOk result (λ ran. (bytes : List ℕ)
-        → RunsTo code.now (length code.now) reset bytes
+    ensures delivered { IfOk result (λ ran. (steps : ℕ) (bytes : List ℕ)
+        → CodeRunsTo code.now steps bytes
         → Delivers ran.end (K.written out.old) (K.written out.new) bytes) }
     ensures fault { IfOk result (λ ran. ran.end ≡ End.WriteFault
         → Rose (K.faults out.old) (K.faults out.new)) }
-    ensures retired { IfOk result (λ ran. ran.end ≡ End.Ended → ran.retired ≡ length code.now) }
+    ensures retired { IfOk result (λ ran. ran.end ≡ End.Ended → (steps : ℕ) (bytes : List ℕ)
+        → CodeRunsTo code.now steps bytes → ran.retired ≡ steps) }
     ensures silent { OnErr result (K.written out.new ≡ K.written out.old) }
     ensures steady { IfOk result (λ ran. ran.end ≡ End.Ended
         → K.faults out.new ≡ K.faults out.old) }
     ensures untouched { OnErr result (K.faults out.new ≡ K.faults out.old) }
 {
-    let mut memory = FlatMemory::of_code(alloc, code)?;
-    let mut core = Core::new(CODE_START);
+    let mut memory = code_memory(alloc, code)?;
+    let mut core = Core::new(TREE_START);
     let mut port = Port { input, next: 0 };
     for index in 0..code.len() {
         let retired = index as u64 + 1;
@@ -60,8 +65,37 @@ pub fn run<K: Sink>(
                     retired,
                 });
             }
-            StepEnd::Stopped(_) => unreachable!(),
+            _ => unreachable!(),
         }
     }
     unreachable!()
+}
+
+/// A memory that holds this code alone.
+fn code_memory(alloc: Global, code: &[u32]) -> Result<FlatMemory, OutOfMemory>
+    requires whole { length code.now % 16 ≡ 0 }
+    requires short { length code.now ≤ 16 * MAX_DATA_BLOCKS }
+    ensures { IfOk result (λ memory. HoldsCode memory code.now) }
+{
+    let layout = Layout {
+        verified: 0,
+        private: 0,
+        constants: 0,
+        code: (code.len() / 16) as u32,
+        log: 0,
+        shared: 0,
+    };
+    let bytes = bytes_of(alloc, code)?;
+    FlatMemory::new(alloc, &layout, bytes.as_slice())
+}
+
+/// The bytes of words, big-endian.
+fn bytes_of(alloc: Global, words: &[u32]) -> Result<Vec<u8>, OutOfMemory>
+    ensures { IfOk result (λ bytes. bytes.items ≡ bytes_of words.now) }
+{
+    let mut bytes = Vec::new(alloc);
+    for word in words {
+        bytes.extend_from_slice(&word.to_be_bytes())?;
+    }
+    Ok(bytes)
 }

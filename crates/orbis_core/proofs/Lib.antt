@@ -1,3 +1,3 @@
-pub mod InstructionLemmas
+pub mod FlatLemmas
 pub mod ProcessorLemmas
-pub mod StepLemmas
+mod RowExamples

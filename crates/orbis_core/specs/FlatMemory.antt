@@ -1,39 +1,79 @@
--- A memory that holds code alone, seen as the list of its words.
-use Rattle.std.specs.Prelude.{◌≡◌, ℕ, ◌+◌, ◌-◌, ◌*◌, ◌/◌, ◌%◌, ◌&&◌, ◌==◌, nat_le, nat_lt, if◌then◌else◌, List, length, slice_index, Result, Ok, Err}
+-- A memory of words with the classes of a layout, which grants the rights of the private tamper-resistant mode.
+use Rattle.std.specs.Prelude.{◌≡◌, ℕ, ◌+◌, ◌-◌, ◌*◌, ◌/◌, nat_lt, if◌then◌else◌, List, ◌++◌, replicate, slice_index, slice_set, Result}
+use Rattle.regions.specs.declared.Layout.{Layout}
+use Rattle.regions.specs.declared.Mode.TheVariants.{Ptr}
+use Rattle.regions.specs.declared.Access.{Access}
+use Rattle.regions.specs.declared.Access.TheVariants.{Read, Write, Fetch}
+use Rattle.regions.specs.Addresses.{open_end, tree_start, log_start}
+use Rattle.regions.specs.Blocks.{data_blocks}
 use Rattle.orbis_core.specs.declared.memory.Stop.{Stop}
-use Rattle.orbis_core.specs.declared.memory.Stop.TheVariants.{Refused}
-use Rattle.orbis_core.specs.declared.memory.Why.TheVariants.{Rights, Misaligned}
 use Rattle.orbis_core.specs.Accesses.{Accesses}
+use Rattle.orbis_core.specs.Refusals.{word_refusal, byte_refusal, answered, unless_refused}
+use Rattle.orbis_core.specs.Words.{words_in, byte_in, with_byte}
 
--- the address of the first word of code
-abbrev pub code_start : ℕ
-code_start = 0x10000000
+-- the layout, and all words: the open ones, those of the data blocks and those of the log blocks, each in the order of the addresses
+pub record Flat : Type 0 where
+  pub layout : Layout
+  pub words : List ℕ
 
--- how many words of code there may be: 6,561 blocks of 16 words
-abbrev pub max_code_words : ℕ
-max_code_words = 6561 * 16
+-- how many open words there are
+abbrev pub open_words : ℕ
+open_words = 16384
 
--- the answer of a fetch: word number k at code_start + 4 * k, and no right outside the code
-abbrev pub fetched : List ℕ → ℕ → Result ℕ Stop
-fetched code at =
-    if nat_le code_start at && nat_lt at (code_start + 4 * length code)
-    then (if at % 4 == 0 then Ok (slice_index code ((at - code_start) / 4)) else Err (Refused Misaligned))
-    else Err (Refused Rights)
+-- how many words a block has
+abbrev pub block_words : ℕ
+block_words = 16
 
--- a fetch gives its answer, and changes nothing
-abbrev pub Fetches : List ℕ → ℕ → Result ℕ Stop → List ℕ → Type 0
-Fetches old at answer new = (answer ≡ fetched old at) × (new ≡ old)
+-- how many words there are
+abbrev pub word_count : Layout → ℕ
+word_count layout = open_words + block_words * data_blocks layout + block_words * layout.log
 
--- no right allows the access, and nothing changes
-abbrev pub IsRefused : {T : Type 0} → List ℕ → Result T Stop → List ℕ → Type 0
-IsRefused old answer new = (answer ≡ Err (Refused Rights)) × (new ≡ old)
+-- the number of the word that an address lies in
+abbrev pub index_of : Layout → ℕ → ℕ
+index_of layout at =
+    if nat_lt at open_end then at / 4
+    else (if nat_lt at log_start then open_words + (at - tree_start) / 4 else open_words + block_words * data_blocks layout + (at - log_start) / 4)
 
--- what the five calls do: code is fetched, and there is nothing to load or to store
-abbrev pub flat_accesses : Accesses (List ℕ)
+-- the word that an address lies in
+abbrev pub word_at : Flat → ℕ → ℕ
+word_at memory at = slice_index memory.words (index_of memory.layout at)
+
+-- the memory with another word there
+abbrev pub put : Flat → ℕ → ℕ → Flat
+put memory at word = record memory { words = slice_set memory.words (index_of memory.layout at) word }
+
+-- before the first access: the constant and code blocks hold these bytes, and all else is zero
+abbrev pub flat_of : Layout → List ℕ → Flat
+flat_of layout statics = record {
+  layout = layout;
+  words = replicate (open_words + block_words * (layout.verified + layout.private)) 0 ++ words_in statics ++ replicate (block_words * layout.log) 0;
+}
+
+-- a word is fetched or loaded, and nothing changes
+abbrev pub ReadsWord : Access → Flat → ℕ → Result ℕ Stop → Flat → Type 0
+ReadsWord access old at answer new = (answer ≡ answered (word_refusal old.layout Ptr access at) (word_at old at)) × (new ≡ old)
+
+-- a byte is loaded, and nothing changes
+abbrev pub ReadsByte : Flat → ℕ → Result ℕ Stop → Flat → Type 0
+ReadsByte old at answer new = (answer ≡ answered (byte_refusal old.layout Ptr Read at) (byte_in (word_at old at) at)) × (new ≡ old)
+
+-- a word is stored, and no other word changes; nothing does where it is refused
+abbrev pub WritesWord : Flat → ℕ → ℕ → Result (Unit {0}) Stop → Flat → Type 0
+WritesWord old at word answer new =
+    (answer ≡ answered (word_refusal old.layout Ptr Write at) tt) × (new ≡ unless_refused (word_refusal old.layout Ptr Write at) old (put old at word))
+
+-- a byte is stored, and no other byte changes; nothing does where it is refused
+abbrev pub WritesByte : Flat → ℕ → ℕ → Result (Unit {0}) Stop → Flat → Type 0
+WritesByte old at byte answer new =
+    (answer ≡ answered (byte_refusal old.layout Ptr Write at) tt)
+    × (new ≡ unless_refused (byte_refusal old.layout Ptr Write at) old (put old at (with_byte (word_at old at) at byte)))
+
+-- what the five calls do
+abbrev pub flat_accesses : Accesses Flat
 flat_accesses = record {
-  fetch = Fetches;
-  load_word = λ old at answer new. IsRefused old answer new;
-  load_byte = λ old at answer new. IsRefused old answer new;
-  store_word = λ old at word answer new. IsRefused old answer new;
-  store_byte = λ old at byte answer new. IsRefused old answer new;
+  fetch = ReadsWord Fetch;
+  load_word = ReadsWord Read;
+  load_byte = ReadsByte;
+  store_word = WritesWord;
+  store_byte = WritesByte;
 }

@@ -1,5 +1,10 @@
 pub mod Accesses
+pub mod Effects
+pub mod FlatLaws
 pub mod FlatMemory
-pub mod Instruction
 pub mod Processor
+pub mod Refusals
 pub mod Rows
+pub mod Secure
+pub mod StepLaws
+pub mod Words

@@ -1,5 +1,7 @@
 -- The processor as a program sees it: program counter, flag and registers.
 use Rattle.std.specs.Prelude.{◌≡◌, ℕ, ◌+◌, ◌%◌, ◌^◌, Bool, ◌==◌, if◌then◌else◌, List, length, slice_index, slice_set}
+use Rattle.orbis_core.specs.declared.effect.Effect.{Effect}
+use Rattle.orbis_core.specs.declared.effect.Effect.TheVariants.{Proceed, Write, Compare, Jump, Link}
 
 -- the program counter, the flag F, and the registers by number
 pub record Processor : Type 0 where
@@ -19,9 +21,26 @@ registers_with registers n value = if n == 0 then registers else slice_set regis
 abbrev pub with_register : Processor → ℕ → ℕ → Processor
 with_register core n value = record core { registers = registers_with core.registers n value }
 
+-- the address of the next instruction
+abbrev pub next_pc : Processor → ℕ
+next_pc core = (core.pc + 4) % 2 ^ 32
+
 -- the processor at the next instruction
 abbrev pub advanced : Processor → Processor
-advanced core = record core { pc = (core.pc + 4) % 2 ^ 32 }
+advanced core = record core { pc = next_pc core }
+
+-- the processor at the next instruction, with a register written
+abbrev pub written : Processor → ℕ → ℕ → Processor
+written core d value = advanced (with_register core d value)
+
+-- the processor behind an effect that needs neither memory nor port
+abbrev pub core_behind : Effect → Processor → Processor
+core_behind Proceed core = advanced core
+core_behind (Write d value) core = written core d value
+core_behind (Compare flag) core = advanced (record core { flag = flag })
+core_behind (Jump to) core = record core { pc = to }
+core_behind (Link to) core = record (with_register core 9 (next_pc core)) { pc = to }
+core_behind effect core = core
 
 -- there are 32 registers, and register 0 reads zero
 pub record IsProcessor (core : Processor) : Type 0 where

@@ -1,16 +1,19 @@
--- The instruction table: what each instruction does, and one step of the processor.
-use Rattle.std.specs.Prelude.{◌≡◌, ℕ, ◌+◌, ◌*◌, ◌%◌, ◌==◌, if◌then◌else◌, bit_or, ◌⊎◌, Result, Ok, Err}
+-- One step of the processor over a memory: one row of the instruction table, over the answers of the memory.
+use Rattle.std.specs.Prelude.{◌≡◌, ◌≢◌, ℕ, ◌+◌, Option, Some, None, Result, Ok, Err}
+use Rattle.orbis_word.specs.declared.Instr.{Instr}
+use Rattle.orbis_word.specs.Reading.{instruction_in}
+use Rattle.orbis_core.specs.declared.effect.Effect.{Effect}
+use Rattle.orbis_core.specs.declared.effect.Effect.TheVariants.{LoadWord, LoadByte, StoreWord, StoreByte, DivideByZero, Secure}
 use Rattle.orbis_core.specs.declared.memory.Stop.{Stop}
 use Rattle.orbis_core.specs.declared.memory.Stop.TheVariants.{Refused, Tree, Log}
-use Rattle.orbis_core.specs.declared.memory.Why.TheVariants.{Illegal}
+use Rattle.orbis_core.specs.declared.memory.Why.TheVariants.{Illegal, Divide}
 use Rattle.orbis_core.specs.declared.port.Port.{Port}
 use Rattle.orbis_core.specs.declared.stepping.StepEnd.{StepEnd}
-use Rattle.orbis_core.specs.declared.stepping.StepEnd.TheVariants.{Next, Released, Exit, Stopped}
-use Rattle.orbis_core.specs.declared.decode.Instr.{Instr}
-use Rattle.orbis_core.specs.declared.decode.Instr.TheVariants.{Movhi, Ori, Cust1}
+use Rattle.orbis_core.specs.declared.stepping.StepEnd.TheVariants.{Next, Stopped}
 use Rattle.orbis_core.specs.Accesses.{Accesses}
-use Rattle.orbis_core.specs.Instruction.{IsWordOf, IsNoInstruction}
-use Rattle.orbis_core.specs.Processor.{Processor, register, with_register, advanced}
+use Rattle.orbis_core.specs.Effects.{effect_of}
+use Rattle.orbis_core.specs.Processor.{Processor, written, advanced, core_behind}
+use Rattle.orbis_core.specs.Secure.{secure_of, secure_end, secure_core, secure_port}
 
 -- the processor, its memory and its input
 pub record Machine (M : Type 0) : Type 0 where
@@ -18,59 +21,89 @@ pub record Machine (M : Type 0) : Type 0 where
   pub memory : M
   pub port : Port
 
--- the processor behind an instruction
-abbrev pub core_after : Instr → Processor → Processor
-core_after (Movhi d k) core = advanced (with_register core d (k * 65536))
-core_after (Ori d a k) core = advanced (with_register core d (bit_or (register core a) k))
-core_after (Cust1 f) core = advanced core
-
--- how the step of an instruction ends
-abbrev pub end_of : Instr → Processor → StepEnd
-end_of (Movhi d k) core = Next
-end_of (Ori d a k) core = Next
-end_of (Cust1 f) core = if f == 6 then Released (register core 3 % 256) else Exit
-
--- the row of an instruction, from the machine that fetched it to the machine behind the step
-pub record IsRow {M : Type 0} (instruction : Instr) (old : Machine M) (end : StepEnd) (new : Machine M) : Type 0 where
-  pub ends : end ≡ end_of instruction old.core
-  pub core : new.core ≡ core_after instruction old.core
+-- the step ends so, with this processor and this port, and the memory stays as it is
+pub record Leaves {M : Type 0} (end : StepEnd) (processor : Processor) (input : Port) (old : Machine M) (result : StepEnd) (new : Machine M) : Type 0 where
+  pub ends : result ≡ end
+  pub core : new.core ≡ processor
   pub memory : new.memory ≡ old.memory
-  pub port : new.port ≡ old.port
+  pub port : new.port ≡ input
 
 -- a step that is stopped leaves the processor, the memory and the port as they are
-pub record IsStopped {M : Type 0} (stop : Stop) (old : Machine M) (end : StepEnd) (new : Machine M) : Type 0 where
-  pub ends : end ≡ Stopped stop
-  pub core : new.core ≡ old.core
-  pub memory : new.memory ≡ old.memory
+abbrev pub IsStopped : {M : Type 0} → Stop → Machine M → StepEnd → Machine M → Type 0
+IsStopped stop old end new = Leaves (Stopped stop) old.core old.port old end new
+
+-- how a step ends behind the answer of an access
+abbrev pub end_behind : {T : Type 0} → Result T Stop → StepEnd
+end_behind (Ok value) = Next
+end_behind (Err stop) = Stopped stop
+
+-- the processor behind the answer of a load, and behind that of a store
+abbrev pub core_loaded : ℕ → Result ℕ Stop → Processor → Processor
+core_loaded d (Ok word) core = written core d word
+core_loaded d (Err stop) core = core
+
+abbrev pub core_stored : {T : Type 0} → Result T Stop → Processor → Processor
+core_stored (Ok value) core = advanced core
+core_stored (Err stop) core = core
+
+-- the memory answers a load at the address, and the answer goes to the register
+pub record Loads {M : Type 0} (load : M → ℕ → Result ℕ Stop → M → Type 0) (d at : ℕ) (old : Machine M) (end : StepEnd) (new : Machine M) : Type 0 where
+  pub answer : Result ℕ Stop
+  pub loaded : load old.memory at answer new.memory
+  pub ends : end ≡ end_behind answer
+  pub core : new.core ≡ core_loaded d answer old.core
   pub port : new.port ≡ old.port
 
+-- the memory answers a store of the value at the address
+pub record Stores {M : Type 0} (store : M → ℕ → ℕ → Result (Unit {0}) Stop → M → Type 0) (at value : ℕ) (old : Machine M) (end : StepEnd) (new : Machine M) : Type 0 where
+  pub answer : Result (Unit {0}) Stop
+  pub stored : store old.memory at value answer new.memory
+  pub ends : end ≡ end_behind answer
+  pub core : new.core ≡ core_stored answer old.core
+  pub port : new.port ≡ old.port
+
+-- what an instruction asks for is done
+abbrev pub Carries : {M : Type 0} → Accesses M → Effect → Machine M → StepEnd → Machine M → Type 0
+Carries accesses (LoadWord d at) old end new = Loads accesses.load_word d at old end new
+Carries accesses (LoadByte d at) old end new = Loads accesses.load_byte d at old end new
+Carries accesses (StoreWord at word) old end new = Stores accesses.store_word at word old end new
+Carries accesses (StoreByte at byte) old end new = Stores accesses.store_byte at byte old end new
+Carries accesses DivideByZero old end new = IsStopped (Refused Divide) old end new
+Carries accesses (Secure f) old end new =
+    Leaves (secure_end (secure_of f) old.core) (secure_core (secure_of f) old.port old.core) (secure_port (secure_of f) old.port) old end new
+Carries accesses effect old end new = Leaves Next (core_behind effect old.core) old.port old end new
+
 -- behind a word: the row of the instruction that it is, or Illegal where it is none
-abbrev pub Executes : {M : Type 0} → ℕ → Machine M → StepEnd → Machine M → Type 0
-Executes word old end new =
-    ((instruction : Instr) × IsWordOf word instruction × IsRow instruction old end new)
-    ⊎ (IsNoInstruction word × IsStopped (Refused Illegal) old end new)
+abbrev pub Executes : {M : Type 0} → Accesses M → Option Instr → Machine M → StepEnd → Machine M → Type 0
+Executes accesses (Some instruction) old end new = Carries accesses (effect_of instruction old.core) old end new
+Executes accesses None old end new = IsStopped (Refused Illegal) old end new
 
 -- behind a fetch: what the word says, or the stop of the memory
-abbrev pub GoesOn : {M : Type 0} → Result ℕ Stop → Machine M → StepEnd → Machine M → Type 0
-GoesOn (Ok word) old end new = Executes word old end new
-GoesOn (Err stop) old end new = IsStopped stop old end new
+abbrev pub GoesOn : {M : Type 0} → Accesses M → Result ℕ Stop → Machine M → StepEnd → Machine M → Type 0
+GoesOn accesses (Ok word) old end new = Executes accesses (instruction_in word) old end new
+GoesOn accesses (Err stop) old end new = IsStopped stop old end new
 
 -- one step: the fetch at the program counter, and what its answer says, from the memory that the fetch left
 pub record Steps {M : Type 0} (accesses : Accesses M) (old : Machine M) (end : StepEnd) (new : Machine M) : Type 0 where
   pub answer : Result ℕ Stop
   pub middle : M
   pub fetched : accesses.fetch old.memory old.core.pc answer middle
-  pub goes_on : GoesOn answer (record old { memory = middle }) end new
+  pub goes_on : GoesOn accesses answer (record old { memory = middle }) end new
+
+-- where a step is stopped, the processor and the port are as they were
+abbrev pub StopsUnchanged : {M : Type 0} → Machine M → StepEnd → Machine M → Type 0
+StopsUnchanged old end new = (stop : Stop) → end ≡ Stopped stop → (new.core ≡ old.core) × (new.port ≡ old.port)
+
+-- the step is not stopped
+abbrev pub IsNoStop : StepEnd → Type 0
+IsNoStop end = (stop : Stop) → end ≢ Stopped stop
 
 -- no check of the memory failed
 abbrev pub IsSettledEnd : StepEnd → Type 0
-IsSettledEnd Next = Unit {0}
-IsSettledEnd (Released byte) = Unit {0}
-IsSettledEnd Exit = Unit {0}
-IsSettledEnd (Stopped (Refused why)) = Unit {0}
 IsSettledEnd (Stopped (Tree event)) = ⊥
 IsSettledEnd (Stopped (Log event)) = ⊥
+IsSettledEnd end = Unit {0}
 
--- behind a step in which no check of the memory failed at most two accesses fewer are left
-abbrev pub LeavesTwoFewer : {M : Type 0} → (M → ℕ → Type 0) → M → StepEnd → M → Type 0
-LeavesTwoFewer has_left old end new = IsSettledEnd end → (n : ℕ) → has_left old (n + 2) → has_left new n
+-- behind a step in which no check of the memory failed at most so many accesses fewer are left
+abbrev pub LeavesFewer : {M : Type 0} → ℕ → (M → ℕ → Type 0) → M → StepEnd → M → Type 0
+LeavesFewer fewer has_left old end new = IsSettledEnd end → (n : ℕ) → has_left old (n + fewer) → has_left new n

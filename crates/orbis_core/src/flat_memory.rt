@@ -1,45 +1,116 @@
-//! A memory that holds code alone.
-ghost use Rattle.std.specs.Prelude.{◌≡◌, ◌≤◌, length, IfOk};
+//! A memory of plain words with the classes of a layout.
+ghost use Rattle.std.specs.Prelude.{◌≡◌, ◌+◌, ◌*◌, ◌<◌, ◌++◌, IfOk, OnOk, length};
+ghost use Rattle.orbis_core.specs.FlatMemory.{flat_of, index_of, word_count};
+ghost use Rattle.orbis_core.specs.Refusals.{answered, byte_refusal, word_refusal};
+ghost use Rattle.orbis_core.specs.Words.{words_in};
+ghost use Rattle.regions.specs.declared.Mode.TheVariants.{Ptr};
 
 use crate::memory::{Memory, Stop, Why};
 use aegis_num::OutOfMemory;
+use regions::{Access, LOG_START, Layout, Mode, OPEN_END, TREE_START, class_of, may};
 use std::alloc::Global;
 use std::marker::Model;
 
-/// The address of the first word of code.
-pub const CODE_START: u32 = 0x1000_0000;
+/// How many open words there are.
+const OPEN_WORDS: usize = 16_384;
 
-/// How many words of code there may be: 6,561 blocks of 16 words.
-pub const MAX_CODE_WORDS: usize = 104_976;
+/// How many words a block has.
+const BLOCK_WORDS: usize = 16;
 
-/// A memory that holds code alone: word number k of the code stands at `CODE_START` + 4k.
-/// Nothing of it can be read as data or written.
+/// A memory of plain words with the classes of a layout, always in the rights of PTR, the private tamper-resistant
+/// mode. An access that the class refuses is `Refused` with `Rights`, and one that the alignment refuses alone with
+/// `Misaligned`; nothing else stops an access. Open words change by stores alone, like all others.
 #[derive(Debug, Drop)]
 pub struct FlatMemory {
-    code: Vec<u32>,
+    layout: Layout,
+    words: Vec<u32>,
 }
 
 impl Model for FlatMemory {
-    ghost use Rattle.std.specs.Prelude.{ℕ, List, ◌≤◌, length};
-    ghost use Rattle.orbis_core.specs.FlatMemory.{max_code_words};
+    ghost use Rattle.std.specs.Prelude.{◌≡◌, length};
+    ghost use Rattle.orbis_core.specs.FlatMemory.{Flat, word_count};
 
-    ghost Value = { List ℕ };
+    ghost Value = { Flat };
 
-    ghost view = { λ m. m.code.items };
+    ghost view = { λ m. record { layout = m.layout; words = m.words.items } };
 
-    ghost invariant = { λ m. length m.code.items ≤ max_code_words };
+    ghost invariant = { λ m. length m.words.items ≡ word_count m.layout };
 }
 
 impl FlatMemory {
-    /// A memory that holds this code.
-    pub fn of_code(alloc: Global, code: &[u32]) -> Result<FlatMemory, OutOfMemory>
-        requires { length code.now ≤ MAX_CODE_WORDS }
-        ensures { IfOk result (λ memory. memory ≡ code.now) }
+    /// A memory whose constant blocks, and then its code blocks, hold these bytes, 64 for each block. Words are
+    /// big-endian. All else is zero.
+    pub fn new(alloc: Global, layout: &Layout, statics: &[u8]) -> Result<FlatMemory, OutOfMemory>
+        requires { length statics.now ≡ 64 * (layout.now.constants + layout.now.code) }
+        ensures { IfOk result (λ memory. memory ≡ flat_of layout.now statics.now) }
     {
+        let zeros = OPEN_WORDS + BLOCK_WORDS * (layout.verified + layout.private) as usize;
+        let all = zeros + statics.len() / 4 + BLOCK_WORDS * layout.log as usize;
+        let mut words = Vec::new(alloc);
+        words.resize(zeros, 0)?;
+        push_words(&mut words, statics)?;
+        words.resize(all, 0)?;
         Ok(FlatMemory {
-            code: Vec::from_slice(alloc, code)?,
+            layout: *layout,
+            words,
         })
     }
+
+    /// The place of the word at an address, where the access to it is not refused.
+    fn place_of_word(&self, at: u32, access: Access) -> Result<usize, Stop>
+        ensures value { result ≡ answered (word_refusal self.now.layout Ptr access at)
+            (index_of self.now.layout at) }
+        ensures inside { IfOk result (λ index. index < length self.now.words) }
+    {
+        let index = self.place_of_byte(at, access)?;
+        if at % 4 != 0 {
+            return Err(Stop::Refused(Why::Misaligned));
+        }
+        Ok(index)
+    }
+
+    /// The place of the word that an address lies in, where the access to the byte there is not refused.
+    fn place_of_byte(&self, at: u32, access: Access) -> Result<usize, Stop>
+        ensures value { result ≡ answered (byte_refusal self.now.layout Ptr access at)
+            (index_of self.now.layout at) }
+        ensures inside { IfOk result (λ index. index < length self.now.words) }
+    {
+        let Some(class) = class_of(&self.layout, at) else {
+            return Err(Stop::Refused(Why::Rights));
+        };
+        if !may(Mode::Ptr, class, access) {
+            return Err(Stop::Refused(Why::Rights));
+        }
+        Ok(self.index(at))
+    }
+
+    /// The number of the word that an address lies in.
+    fn index(&self, at: u32) -> usize
+        requires { index_of self.now.layout at < word_count self.now.layout }
+        ensures { result ≡ index_of self.now.layout at }
+    {
+        let layout = &self.layout;
+        if at < OPEN_END {
+            return (at / 4) as usize;
+        }
+        if at < LOG_START {
+            return OPEN_WORDS + (at.saturating_sub(TREE_START) / 4) as usize;
+        }
+        let blocks = layout.verified + layout.private + layout.constants + layout.code;
+        OPEN_WORDS + BLOCK_WORDS * blocks as usize + ((at - LOG_START) / 4) as usize
+    }
+}
+
+/// Adds the words of some bytes.
+fn push_words(words: &mut Vec<u32>, bytes: &[u8]) -> Result<(), OutOfMemory>
+    ensures { OnOk result (words.new.items ≡ words.old.items ++ words_in bytes.now) }
+{
+    let mut rest = bytes;
+    while let [first, second, third, fourth, after @ ..] = rest {
+        words.push(u32::from_be_bytes([*first, *second, *third, *fourth]))?;
+        rest = after;
+    }
+    Ok(())
 }
 
 impl Memory for FlatMemory {
@@ -52,30 +123,33 @@ impl Memory for FlatMemory {
     ghost accesses = { flat_accesses };
 
     fn fetch(&mut self, at: u32) -> Result<u32, Stop> {
-        let Some(offset) = at.checked_sub(CODE_START) else {
-            return Err(Stop::Refused(Why::Rights));
-        };
-        match self.code.get((offset / 4) as usize) {
-            None => Err(Stop::Refused(Why::Rights)),
-            Some(_) if offset % 4 != 0 => Err(Stop::Refused(Why::Misaligned)),
-            Some(word) => Ok(*word),
-        }
+        let index = self.place_of_word(at, Access::Fetch)?;
+        Ok(self.words[index])
     }
 
-    fn load_word(&mut self, _at: u32) -> Result<u32, Stop> {
-        Err(Stop::Refused(Why::Rights))
+    fn load_word(&mut self, at: u32) -> Result<u32, Stop> {
+        let index = self.place_of_word(at, Access::Read)?;
+        Ok(self.words[index])
     }
 
-    fn load_byte(&mut self, _at: u32) -> Result<u32, Stop> {
-        Err(Stop::Refused(Why::Rights))
+    fn load_byte(&mut self, at: u32) -> Result<u32, Stop> {
+        let index = self.place_of_byte(at, Access::Read)?;
+        let bytes = self.words[index].to_be_bytes();
+        Ok(bytes[(at % 4) as usize] as u32)
     }
 
-    fn store_word(&mut self, _at: u32, _word: u32) -> Result<(), Stop> {
-        Err(Stop::Refused(Why::Rights))
+    fn store_word(&mut self, at: u32, word: u32) -> Result<(), Stop> {
+        let index = self.place_of_word(at, Access::Write)?;
+        self.words[index] = word;
+        Ok(())
     }
 
-    fn store_byte(&mut self, _at: u32, _byte: u8) -> Result<(), Stop> {
-        Err(Stop::Refused(Why::Rights))
+    fn store_byte(&mut self, at: u32, byte: u8) -> Result<(), Stop> {
+        let index = self.place_of_byte(at, Access::Write)?;
+        let mut bytes = self.words[index].to_be_bytes();
+        bytes[(at % 4) as usize] = byte;
+        self.words[index] = u32::from_be_bytes(bytes);
+        Ok(())
     }
 
     ghost fewer_left = { λ memory n left. Prim.search rules };

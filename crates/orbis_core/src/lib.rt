@@ -2,16 +2,19 @@
 //! A step is generic over the memory, and is proved once for each memory that keeps the contract of `Memory`.
 #![tactic(auto)]
 
-mod decode;
+mod effect;
 mod flat_memory;
 mod memory;
 mod port;
 mod processor;
 mod stepping;
 
-pub use decode::Instr;
-pub use flat_memory::{CODE_START, FlatMemory, MAX_CODE_WORDS};
+pub use effect::Effect;
+pub use flat_memory::FlatMemory;
 pub use memory::{Memory, Stop, Why};
 pub use port::Port;
 pub use processor::Core;
 pub use stepping::{StepEnd, step};
+
+#[cfg(test)]
+mod tests;

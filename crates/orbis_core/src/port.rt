@@ -1,4 +1,6 @@
 //! The port that the input instruction reads.
+ghost use Rattle.std.specs.Prelude.{◌≡◌, ◌≤◌, length};
+ghost use Rattle.orbis_core.specs.Secure.{input_word, port_read};
 
 /// Input bytes, and how far they are read.
 #[derive(Clone, Copy, Debug)]
@@ -7,4 +9,22 @@ pub struct Port<'a> {
     pub input: &'a [u8],
     /// How many of them were read, at most as many as there are.
     pub next: usize,
+}
+
+impl Port<'_> {
+    /// The next byte, or -1 behind the last one.
+    pub(crate) fn read(&mut self) -> u32
+        ensures word { result ≡ input_word self.old }
+        ensures port { self.new ≡ port_read self.old }
+        ensures within { self.old.next ≤ length self.old.input.now
+            → self.new.next ≤ length self.new.input.now }
+    {
+        match self.input.get(self.next) {
+            Some(byte) => {
+                self.next += 1;
+                *byte as u32
+            }
+            None => u32::MAX,
+        }
+    }
 }

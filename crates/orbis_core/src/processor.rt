@@ -1,7 +1,11 @@
 //! The core: program counter, flag and registers.
 ghost use Rattle.std.specs.Prelude.{◌≡◌, ◌<◌, false, replicate};
-ghost use Rattle.orbis_core.specs.Processor.{register, with_register, advanced};
+ghost use Rattle.orbis_core.specs.Processor.{IsProcessor, advanced, core_behind, next_pc, register, with_register, written};
+ghost use Rattle.orbis_core.specs.Rows.{core_loaded, core_stored, end_behind};
 
+use crate::effect::Effect;
+use crate::memory::Stop;
+use crate::stepping::StepEnd;
 use std::marker::Model;
 
 /// How many registers there are.
@@ -49,8 +53,15 @@ impl Core {
         self.registers[n as usize]
     }
 
+    /// States what holds of each core.
+    pub(crate) fn is_whole(&self)
+        ensures { IsProcessor self.now }
+    {
+        let _pc = self.pc;
+    }
+
     /// Writes a register; a write to register 0 is dropped.
-    pub(crate) fn set_register(&mut self, n: u32, value: u32)
+    pub(crate) fn set_register(&mut self, n: u8, value: u32)
         requires { n < 32 }
         ensures { self.new ≡ with_register self.old n value }
     {
@@ -59,10 +70,80 @@ impl Core {
         }
     }
 
-    /// Goes on to the next instruction.
-    pub(crate) fn advance(&mut self)
-        ensures { self.new ≡ advanced self.old }
+    /// The address behind this instruction.
+    pub(crate) fn next_pc(&self) -> u32
+        ensures { result ≡ next_pc self.now }
     {
-        self.pc = self.pc.wrapping_add(4);
+        self.pc.wrapping_add(4)
+    }
+
+    /// Goes on to the next instruction.
+    pub(crate) fn advance(&mut self) -> StepEnd
+        ensures end { result ≡ StepEnd.Next }
+        ensures core { self.new ≡ advanced self.old }
+    {
+        self.pc = self.next_pc();
+        StepEnd::Next
+    }
+
+    /// Writes a register, and goes on to the next instruction.
+    pub(crate) fn write(&mut self, d: u8, value: u32) -> StepEnd
+        requires { d < 32 }
+        ensures end { result ≡ StepEnd.Next }
+        ensures core { self.new ≡ written self.old d value }
+    {
+        self.set_register(d, value);
+        self.advance()
+    }
+
+    /// Sets or clears the flag, and goes on to the next instruction.
+    pub(crate) fn compare_as(&mut self, flag: bool) -> StepEnd
+        ensures end { result ≡ StepEnd.Next }
+        ensures core { self.new ≡ core_behind (Effect.Compare flag) self.old }
+    {
+        self.flag = flag;
+        self.advance()
+    }
+
+    /// Goes on to the instruction at an address.
+    pub(crate) fn jump(&mut self, to: u32) -> StepEnd
+        ensures end { result ≡ StepEnd.Next }
+        ensures core { self.new ≡ core_behind (Effect.Jump to) self.old }
+    {
+        self.pc = to;
+        StepEnd::Next
+    }
+
+    /// The same, with the address behind this instruction in register 9.
+    pub(crate) fn link(&mut self, to: u32) -> StepEnd
+        ensures end { result ≡ StepEnd.Next }
+        ensures core { self.new ≡ core_behind (Effect.Link to) self.old }
+    {
+        let behind = self.next_pc();
+        self.set_register(9, behind);
+        self.jump(to)
+    }
+
+    /// Ends a load to a register by the answer of the memory.
+    pub(crate) fn take(&mut self, d: u8, answer: Result<u32, Stop>) -> StepEnd
+        requires { d < 32 }
+        ensures end { result ≡ end_behind answer }
+        ensures core { self.new ≡ core_loaded d answer self.old }
+    {
+        match answer {
+            Ok(word) => self.write(d, word),
+            Err(stop) => StepEnd::Stopped(stop),
+        }
+    }
+
+    /// Ends a store by the answer of the memory.
+    pub(crate) fn go_on(&mut self, answer: Result<(), Stop>) -> StepEnd
+        ensures end { result ≡ end_behind answer }
+        ensures core { self.new ≡ core_stored answer self.old }
+    {
+        match answer {
+            Ok(()) => self.advance(),
+            Err(stop) => StepEnd::Stopped(stop),
+        }
     }
 }

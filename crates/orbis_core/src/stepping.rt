@@ -1,29 +1,48 @@
 //! One step of the core: one row of the instruction table.
 ghost use Rattle.std.specs.Prelude.{◌≡◌, ◌≤◌, length};
-ghost use Rattle.orbis_core.specs.Instruction.{IsInRange};
+ghost use Rattle.orbis_core.specs.Effects.{IsEffectInRange};
 ghost use Rattle.orbis_core.specs.Processor.{IsProcessor};
-ghost use Rattle.orbis_core.specs.Rows.{Steps, LeavesTwoFewer, core_after, end_of};
+ghost use Rattle.orbis_core.specs.Rows.{Carries, IsNoStop, LeavesFewer, Steps, StopsUnchanged};
+ghost use Rattle.orbis_core.specs.Secure.{secure_core, secure_end, secure_of, secure_port};
 
-use crate::decode::{self, EXIT, Instr, RELEASE};
+use crate::effect::Effect;
 use crate::memory::{Memory, Stop, Why};
 use crate::port::Port;
 use crate::processor::Core;
 
-/// How a step ended.
+/// How a step ended. Whether the mode allows a secure instruction is not asked.
 #[derive(Clone, Copy, Debug, PartialEq, Eq)]
 pub enum StepEnd {
     /// The instruction was done, and the next one follows.
     Next,
+    /// The input instruction was done: register 11 is the next byte of the port, or -1 behind the last one.
+    Input,
     /// The instruction released this byte, and the next one follows.
     Released(u8),
+    /// The program asks for a check.
+    Check,
+    /// The program suspends itself.
+    Suspend,
+    /// The suspended program is to go on.
+    Resume,
+    /// A program begins.
+    Enter,
+    /// Private data can be used from now on, or no longer.
+    Private(bool),
     /// The program ended.
     Exit,
-    /// The memory stopped an access, or the word is no instruction; the core and the port stay as they were.
+    /// The program ended at an index out of range, at this place.
+    Index(u32),
+    /// The program ended at a zero divisor, at this place.
+    Divide(u32),
+    /// The memory stopped an access, the word is no instruction, or a divisor is zero; the core and the port stay
+    /// as they were.
     Stopped(Stop),
 }
 
 /// Fetches the word at the program counter and does its row of the instruction table.
-/// The program counter moves on by 4, modulo 2 to the 32nd, behind each instruction that is done, exit included.
+/// The program counter moves on by 4, modulo 2 to the 32nd, behind each instruction that is done and is no jump, the
+/// secure instructions included.
 pub fn step<M: Memory>(core: &mut Core, mem: &mut M, port: &mut Port) -> StepEnd
     requires left { M.has_left mem.old 2 }
     requires port { port.old.next ≤ length port.old.input.now }
@@ -31,7 +50,10 @@ pub fn step<M: Memory>(core: &mut Core, mem: &mut M, port: &mut Port) -> StepEnd
     ensures row { Steps M.accesses
         (record { core = core.old; memory = mem.old; port = port.old }) result
         (record { core = core.new; memory = mem.new; port = port.new }) }
-    ensures left { LeavesTwoFewer M.has_left mem.old result mem.new }
+    ensures stopped { StopsUnchanged
+        (record { core = core.old; memory = mem.old; port = port.old }) result
+        (record { core = core.new; memory = mem.new; port = port.new }) }
+    ensures left { LeavesFewer 2 M.has_left mem.old result mem.new }
     ensures port { port.new.next ≤ length port.new.input.now }
 
     // The registers are 32, and register 0 reads zero, before the step and behind it.
@@ -42,105 +64,86 @@ pub fn step<M: Memory>(core: &mut Core, mem: &mut M, port: &mut Port) -> StepEnd
         Ok(word) => word,
         Err(stop) => return StepEnd::Stopped(stop),
     };
-    match decode::decode(word) {
-        Some(instruction) => perform(core, instruction),
+    match orbis_word::decode(word) {
+        Some(instruction) => {
+            let effect = core.effect(instruction);
+            let end = carry_out(core, mem, port, effect);
+            core.is_whole();
+            end
+        }
         None => StepEnd::Stopped(Stop::Refused(Why::Illegal)),
     }
 }
 
-/// Does the row of an instruction.
-fn perform(core: &mut Core, instruction: Instr) -> StepEnd
-    requires { IsInRange instruction }
-    ensures ends { result ≡ end_of instruction core.old }
-    ensures core { core.new ≡ core_after instruction core.old }
+/// Does what an instruction asks for.
+fn carry_out<M: Memory>(core: &mut Core, mem: &mut M, port: &mut Port, effect: Effect) -> StepEnd
+    requires left { M.has_left mem.old 1 }
+    requires port { port.old.next ≤ length port.old.input.now }
+    requires effect { IsEffectInRange effect }
+
+    ensures row { Carries M.accesses effect
+        (record { core = core.old; memory = mem.old; port = port.old }) result
+        (record { core = core.new; memory = mem.new; port = port.new }) }
+    ensures stopped { StopsUnchanged
+        (record { core = core.old; memory = mem.old; port = port.old }) result
+        (record { core = core.new; memory = mem.new; port = port.new }) }
+    ensures left { LeavesFewer 1 M.has_left mem.old result mem.new }
+    ensures port { port.new.next ≤ length port.new.input.now }
 {
-    let end = match instruction {
-        Instr::Movhi { d, k } => {
-            core.set_register(u32::from(d), u32::from(k) << 16);
-            StepEnd::Next
+    match effect {
+        Effect::Proceed => core.advance(),
+        Effect::Write { d, value } => core.write(d, value),
+        Effect::Compare { flag } => core.compare_as(flag),
+        Effect::Jump { to } => core.jump(to),
+        Effect::Link { to } => core.link(to),
+        Effect::LoadWord { d, at } => {
+            let answer = mem.load_word(at);
+            core.take(d, answer)
         }
-        Instr::Ori { d, a, k } => {
-            let value = core.register(u32::from(a)) | u32::from(k);
-            core.set_register(u32::from(d), value);
-            StepEnd::Next
+        Effect::LoadByte { d, at } => {
+            let answer = mem.load_byte(at);
+            core.take(d, answer)
         }
-        Instr::Cust1 { f: RELEASE } => StepEnd::Released((core.register(3) & 0xff) as u8),
-        Instr::Cust1 { f: EXIT } => StepEnd::Exit,
-        Instr::Cust1 { f: _ } => unreachable!(),
-    };
-    core.advance();
-    end
+        Effect::StoreWord { at, word } => {
+            let answer = mem.store_word(at, word);
+            core.go_on(answer)
+        }
+        Effect::StoreByte { at, byte } => {
+            let answer = mem.store_byte(at, byte);
+            core.go_on(answer)
+        }
+        Effect::DivideByZero => StepEnd::Stopped(Stop::Refused(Why::Divide)),
+        Effect::Secure { f } => secure(core, port, f),
+    }
 }
 
-#[cfg(test)]
-mod tests {
-    use crate::{CODE_START, Core, FlatMemory, Port, StepEnd, Stop, Why, step};
-    use std::test::Fail;
-
-    const REFUSED_RIGHTS: StepEnd = StepEnd::Stopped(Stop::Refused(Why::Rights));
-
-    const REFUSED_MISALIGNED: StepEnd = StepEnd::Stopped(Stop::Refused(Why::Misaligned));
-
-    const REFUSED_ILLEGAL: StepEnd = StepEnd::Stopped(Stop::Refused(Why::Illegal));
-
-    #[test]
-    fn does_each_row(rt: HostRuntime) -> Result<(), Fail> {
-        let code = [0x1860_0001, 0xa863_0048, 0x7000_0006, 0x7000_0001];
-        let mut mem = FlatMemory::of_code(rt.alloc(), &code)?;
-        let mut core = Core::new(CODE_START);
-        let mut port = Port {
-            input: b"",
-            next: 0,
-        };
-        assert_eq!(rt; step(&mut core, &mut mem, &mut port), StepEnd::Next);
-        assert_eq!(rt; core.register(3), 65_536);
-        assert_eq!(rt; step(&mut core, &mut mem, &mut port), StepEnd::Next);
-        assert_eq!(rt; core.register(3), 65_608);
-        assert_eq!(rt; step(&mut core, &mut mem, &mut port), StepEnd::Released(72));
-        assert_eq!(rt; step(&mut core, &mut mem, &mut port), StepEnd::Exit);
-        assert_eq!(rt; core.pc, CODE_START + 16);
-        assert_eq!(rt; step(&mut core, &mut mem, &mut port), REFUSED_RIGHTS);
-        Ok(())
+/// Does a secure instruction.
+fn secure(core: &mut Core, port: &mut Port, f: u8) -> StepEnd
+    requires f { f ≤ 10 }
+    requires port { port.old.next ≤ length port.old.input.now }
+    ensures end { result ≡ secure_end (secure_of f) core.old }
+    ensures core { core.new ≡ secure_core (secure_of f) port.old core.old }
+    ensures port { port.new ≡ secure_port (secure_of f) port.old }
+    ensures within { port.new.next ≤ length port.new.input.now }
+    ensures goes_on { IsNoStop result }
+{
+    if f == 7 {
+        let word = port.read();
+        core.write(11, word);
+        return StepEnd::Input;
     }
-
-    #[test]
-    fn refuses_words_and_addresses(rt: HostRuntime) -> Result<(), Fail> {
-        let table = [
-            (0x0000_0000, CODE_START, REFUSED_ILLEGAL),
-            (0x1861_0001, CODE_START, REFUSED_ILLEGAL),
-            (0x7000_0002, CODE_START, REFUSED_ILLEGAL),
-            (0x7000_0026, CODE_START, REFUSED_ILLEGAL),
-            (0x1860_0001, CODE_START - 4, REFUSED_RIGHTS),
-            (0x1860_0001, CODE_START + 4, REFUSED_RIGHTS),
-            (0x1860_0001, CODE_START + 2, REFUSED_MISALIGNED),
-        ];
-        for (word, pc, end) in table {
-            let mut mem = FlatMemory::of_code(rt.alloc(), &[word])?;
-            let mut core = Core::new(pc);
-            let mut port = Port {
-                input: b"",
-                next: 0,
-            };
-            assert_eq!(rt;
-                step(&mut core, &mut mem, &mut port),
-                end,
-                "{word:08x} at {pc:08x}"
-            );
-            assert_eq!(rt; core.pc, pc);
-        }
-        Ok(())
-    }
-
-    #[test]
-    fn drops_writes_of_register_0(rt: HostRuntime) -> Result<(), Fail> {
-        let mut mem = FlatMemory::of_code(rt.alloc(), &[0x1800_0001])?;
-        let mut core = Core::new(CODE_START);
-        let mut port = Port {
-            input: b"",
-            next: 0,
-        };
-        assert_eq!(rt; step(&mut core, &mut mem, &mut port), StepEnd::Next);
-        assert_eq!(rt; core.register(0), 0);
-        Ok(())
+    let place = core.register(3);
+    core.advance();
+    match f {
+        0 => StepEnd::Enter,
+        1 => StepEnd::Exit,
+        2 => StepEnd::Suspend,
+        3 => StepEnd::Resume,
+        4 => StepEnd::Private(true),
+        5 => StepEnd::Private(false),
+        6 => StepEnd::Released((place & 0xff) as u8),
+        8 => StepEnd::Check,
+        9 => StepEnd::Index(place),
+        _ => StepEnd::Divide(place),
     }
 }
