@@ -1,3 +1,5 @@
 pub mod FlatLemmas
+mod FlatIdealLemmas
+mod IdealExamples
 pub mod ProcessorLemmas
 mod RowExamples

@@ -1,10 +1,13 @@
 pub mod Accesses
 pub mod Effects
+pub mod FlatIsIdeal
 pub mod FlatLaws
 pub mod FlatMemory
+pub mod Ideal
 pub mod Processor
 pub mod Refusals
 pub mod Rows
 pub mod Secure
+pub mod Soundness
 pub mod StepLaws
 pub mod Words

@@ -4,6 +4,7 @@
 
 mod effect;
 mod flat_memory;
+mod laws;
 mod memory;
 mod port;
 mod processor;
@@ -11,6 +12,7 @@ mod stepping;
 
 pub use effect::Effect;
 pub use flat_memory::FlatMemory;
+pub use laws::{flat_step_is_ideal, ideal_runs};
 pub use memory::{Memory, Stop, Why};
 pub use port::Port;
 pub use processor::Core;
