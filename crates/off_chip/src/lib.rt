@@ -1,0 +1,9 @@
+//! Off-chip memory as the processor sees it: the bus, the trace of its events, and a memory that answers each
+//! read with its last write.
+#![tactic(auto)]
+
+mod event;
+mod trace;
+
+pub use event::{Event, Mark, Who};
+pub use trace::Trace;
