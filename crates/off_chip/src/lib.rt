@@ -2,8 +2,10 @@
 //! read with its last write.
 #![tactic(auto)]
 
+mod bus;
 mod event;
 mod trace;
 
+pub use bus::OffChip;
 pub use event::{Event, Mark, Who};
 pub use trace::Trace;

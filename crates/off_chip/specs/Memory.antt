@@ -1,0 +1,77 @@
+-- Off-chip memory as bytes in a row: the open bytes, then each block of the tree, then each block of the log.
+use Rattle.std.specs.Prelude.{ℕ, ◌+◌, ◌*◌, ◌<◌, ◌%◌, ◌≡◌, List, ◌++◌, take, drop, length, replicate, zero, suc}
+use Rattle.std.specs.Int.{w32, w64, to_be_bytes}
+use Rattle.aegis_num.specs.declared.storage.Place.{Place}
+use Rattle.aegis_num.specs.declared.storage.Place.TheVariants.{Tree, Log}
+use Rattle.aegis_num.specs.declared.storage.Block.{Block}
+use Rattle.regions.specs.declared.layout.Layout.{Layout}
+use Rattle.regions.specs.Addresses.{open_end, untrusted_start}
+use Rattle.regions.specs.Blocks.{data_blocks}
+use Rattle.regions.specs.Tree.{height_of, leaf_of, tree_blocks}
+
+-- how many bytes a block has off chip
+abbrev pub stored_bytes : ℕ
+stored_bytes = 72
+
+-- the bytes of a block off chip: its stamp stands behind its payload, the greatest byte first
+abbrev pub stored : Block → List ℕ
+stored block = block.payload ++ to_be_bytes w64 block.stamp
+
+-- how many blocks the tree of a layout has
+abbrev pub blocks_of_tree : Layout → ℕ
+blocks_of_tree layout = tree_blocks (height_of (data_blocks layout))
+
+-- the layout has the place
+abbrev pub HasPlace : Layout → Place → Type 0
+HasPlace layout (Tree n) = n < blocks_of_tree layout
+HasPlace layout (Log n) = n < layout.log
+
+-- where the bytes of a place begin
+abbrev pub start_of_place : Layout → Place → ℕ
+start_of_place layout (Tree n) = open_end + stored_bytes * n
+start_of_place layout (Log n) = open_end + stored_bytes * (blocks_of_tree layout + n)
+
+-- how many bytes there are
+abbrev pub size_of : Layout → ℕ
+size_of layout = open_end + stored_bytes * (blocks_of_tree layout + layout.log)
+
+-- an address of an open word
+pub record IsWordAddress (at : ℕ) : Type 0 where
+  pub is_open : at < open_end
+  pub aligned : at % 4 ≡ 0
+
+-- so many bytes from a place on
+abbrev pub bytes_at : ℕ → ℕ → List ℕ → List ℕ
+bytes_at at count memory = take count (drop at memory)
+
+-- the memory with these bytes put from a place on
+abbrev pub put : ℕ → List ℕ → List ℕ → List ℕ
+put at bytes memory = take at memory ++ (bytes ++ drop (at + length bytes) memory)
+
+-- how many static blocks a layout has: the constant blocks and then the code blocks
+abbrev pub static_blocks : Layout → ℕ
+static_blocks layout = layout.constants + layout.code
+
+-- the place of a static block
+abbrev pub static_place : Layout → ℕ → Place
+static_place layout n = Tree (leaf_of (height_of (data_blocks layout)) (layout.verified + layout.private + n))
+
+-- a static block, of those whose payloads stand one after another, with stamp 0
+abbrev pub static_block : List ℕ → ℕ → Block
+static_block statics n = record { payload = bytes_at (64 * n) 64 statics; stamp = 0 }
+
+-- the memory with the first n static blocks put at their places
+unfoldable pub with_statics : Layout → List ℕ → ℕ → List ℕ → List ℕ
+with_statics layout statics zero memory = memory
+with_statics layout statics (suc n) memory =
+    put (start_of_place layout (static_place layout n)) (stored (static_block statics n)) (with_statics layout statics n memory)
+
+-- the word that stands where untrusted code starts: the instruction that resumes the program
+abbrev pub resume_word : ℕ
+resume_word = 0x70000003
+
+-- what memory begins with: zeros, the static blocks at their places, and the word that resumes
+unfoldable pub loaded : Layout → List ℕ → List ℕ
+loaded layout statics =
+    put untrusted_start (to_be_bytes w32 resume_word)
+    (with_statics layout statics (static_blocks layout) (replicate (size_of layout) 0))
