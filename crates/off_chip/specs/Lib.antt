@@ -1,3 +1,5 @@
 pub mod Answers
 pub mod Bus
 pub mod Memory
+pub mod MemoryLaws
+pub mod Recorded

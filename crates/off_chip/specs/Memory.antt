@@ -26,10 +26,14 @@ abbrev pub HasPlace : Layout → Place → Type 0
 HasPlace layout (Tree n) = n < blocks_of_tree layout
 HasPlace layout (Log n) = n < layout.log
 
--- where the bytes of a place begin
+-- where the bytes of a place begin, where the tree has so many blocks
+abbrev pub start_in : ℕ → Place → ℕ
+start_in in_tree (Tree n) = open_end + stored_bytes * n
+start_in in_tree (Log n) = open_end + stored_bytes * (in_tree + n)
+
+-- where the bytes of a place of a layout begin
 abbrev pub start_of_place : Layout → Place → ℕ
-start_of_place layout (Tree n) = open_end + stored_bytes * n
-start_of_place layout (Log n) = open_end + stored_bytes * (blocks_of_tree layout + n)
+start_of_place layout place = start_in (blocks_of_tree layout) place
 
 -- how many bytes there are
 abbrev pub size_of : Layout → ℕ

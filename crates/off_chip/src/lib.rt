@@ -4,8 +4,12 @@
 
 mod bus;
 mod event;
+mod recorder;
+mod stored;
 mod trace;
 
 pub use bus::OffChip;
 pub use event::{Event, Mark, Who};
+pub use recorder::Recorder;
+pub use stored::{STORED_BYTES, blocks_of_tree, size_of, start_of};
 pub use trace::Trace;
