@@ -2,7 +2,11 @@
 use Rattle.std.proofs.Common.{◌≡◌, ℕ, ◌+◌, ◌≤◌, List, ◌++◌, length, take, drop, arith, sym, ◌∙◌, ap, append_assoc, length-append, length-drop}
 use Rattle.std.proofs.lemmas.List.{take_at, drop_at, drop-drop, length-take-le}
 use Rattle.std.proofs.Math.Seq.{take-add}
-use Rattle.off_chip.specs.Memory.{bytes_at, put}
+use Rattle.aegis_num.specs.declared.storage.Place.{Place}
+use Rattle.aegis_num.specs.declared.storage.Place.TheVariants.{Tree, Log}
+use Rattle.regions.specs.declared.layout.Layout.{Layout}
+use Rattle.regions.specs.Addresses.{open_end}
+use Rattle.off_chip.specs.Memory.{HasPlace, IsWordAddress, bytes_at, put, start_of_place, size_of}
 
 -- as many bytes as before
 pub length-put : (at : ℕ) (bytes memory : List ℕ) → at + length bytes ≤ length memory → length (put at bytes memory) ≡ length memory
@@ -37,3 +41,12 @@ put-put at xs ys memory next is within =
 pub bytes_at-add : (at n m : ℕ) (memory : List ℕ) → bytes_at at (n + m) memory ≡ bytes_at at n memory ++ bytes_at (at + n) m memory
 bytes_at-add at n m memory =
     take-add n m (drop at memory) ∙ ap (λ l. bytes_at at n memory ++ take m l) (drop-drop n at memory)
+
+-- a place of the layout is within memory
+pub HasPlace-within : (layout : Layout) (place : Place) → HasPlace layout place → start_of_place layout place + 72 ≤ size_of layout
+HasPlace-within layout (Tree n) has = omega arith
+HasPlace-within layout (Log n) has = omega arith
+
+-- an open word is among the open bytes
+pub IsWordAddress-within : (at : ℕ) → IsWordAddress at → at + 4 ≤ open_end
+IsWordAddress-within at is = let p = is.is_open in let q = is.aligned in omega arith

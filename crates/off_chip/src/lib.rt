@@ -4,12 +4,14 @@
 
 mod bus;
 mod event;
+mod plain;
 mod recorder;
 mod stored;
 mod trace;
 
 pub use bus::OffChip;
 pub use event::{Event, Mark, Who};
+pub use plain::{PlainDram, RESUME_WORD};
 pub use recorder::Recorder;
-pub use stored::{STORED_BYTES, blocks_of_tree, size_of, start_of};
+pub use stored::{STORED_BYTES, blocks_of_tree, size_of, start_of, static_block, static_place};
 pub use trace::Trace;

@@ -1,8 +1,8 @@
 //! Where blocks and words stand in off-chip memory, and how. A number has its greatest byte first, as in the
 //! OpenRISC 1000 architecture (manual, section 3.2, big-endian byte order).
-ghost use Rattle.std.specs.Prelude.{◌≡◌, ◌+◌, ◌≤◌, ◌<◌, length};
+ghost use Rattle.std.specs.Prelude.{◌≡◌, ◌+◌, ◌*◌, ◌≤◌, ◌<◌, length};
 ghost use Rattle.std.specs.Int.{w32, w64, to_be_bytes};
-ghost use Rattle.off_chip.specs.Memory.{blocks_of_tree, bytes_at, put, size_of, start_in, stored, stored_bytes};
+ghost use Rattle.off_chip.specs.Memory.{HasPlace, blocks_of_tree, bytes_at, put, size_of, start_in, static_block, static_blocks, static_place, stored, stored_bytes};
 
 use aegis_num::{Block, Place};
 use regions::{Layout, OPEN_END, leaf};
@@ -108,4 +108,25 @@ pub(crate) fn put_word(memory: &mut [u8], at: usize, word: u32)
     ensures { memory.new ≡ put at (to_be_bytes w32 word) memory.old }
 {
     memory[at..at + WORD_BYTES].copy_from_slice(&word.to_be_bytes());
+}
+
+/// The block of constants or code with this number, of those whose payloads stand one after another. Its
+/// stamp is 0.
+pub fn static_block(statics: &[u8], n: u32) -> Block
+    requires { 64 * n + 64 ≤ length statics.now }
+    ensures value { result ≡ static_block statics.now n }
+{
+    let start = PAYLOAD_BYTES * n as usize;
+    let mut payload = [0; PAYLOAD_BYTES];
+    payload.copy_from_slice(&statics[start..start + PAYLOAD_BYTES]);
+    Block { payload, stamp: 0 }
+}
+
+/// The place of the static block with this number: the constant blocks come first, and then the code blocks.
+pub fn static_place(layout: &Layout, n: u32) -> Place
+    requires { n < static_blocks layout.now }
+    ensures value { result ≡ static_place layout.now n }
+    ensures inside { HasPlace layout.now result }
+{
+    Place::Tree(leaf(layout, layout.verified + layout.private + n))
 }
