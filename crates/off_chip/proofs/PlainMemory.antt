@@ -26,6 +26,10 @@ IsPlainMemory-more {layout} {statics} {memory} {trace} event new_memory new_trac
       answered = subst Q (sym more) (IsAnswered-more layout trace event start is.answered (subst P is.bytes holds));
     }
 
+-- what is left behind a loan of a whole `Vec`
+pub written_back : (written before : List ℕ) (len : ℕ) → length written ≡ length before → len ≡ length before → take len (written ++ drop (length written) before) ≡ written
+written_back written before len same long = take_at written (drop (length written) before) len (same ∙ sym long)
+
 -- bytes that were written through a loan of the whole `Vec`
 pub IsPlainMemory-put : {layout : Layout} {statics memory : List ℕ} {trace : List Event} {in_tree : ℕ} (event : Event) (start : ℕ) (bytes written : List ℕ) (len : ℕ) (new_trace : List Event) →
     IsPlainMemory layout statics memory trace in_tree →
@@ -37,5 +41,5 @@ pub IsPlainMemory-put : {layout : Layout} {statics memory : List ℕ} {trace : L
     new_trace ≡ trace ++ event ∷ [] →
     IsPlainMemory layout statics (take len (written ++ drop (length written) memory)) new_trace in_tree
 IsPlainMemory-put {memory = memory} event start bytes written len new_trace is holds puts put_is same long more =
-    let back : take len (written ++ drop (length written) memory) ≡ written = take_at written (drop (length written) memory) len (same ∙ sym long) in
+    let back : take len (written ++ drop (length written) memory) ≡ written = written_back written memory len same long in
     IsPlainMemory-more event _ new_trace is holds (back ∙ put_is ∙ puts) (ap length back ∙ same) more

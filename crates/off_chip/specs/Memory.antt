@@ -74,8 +74,11 @@ with_statics layout statics (suc n) memory =
 abbrev pub resume_word : ℕ
 resume_word = 0x70000003
 
--- what memory begins with: zeros, the static blocks at their places, and the word that resumes
+-- the memory with the static blocks and the word that resumes put at their places
+abbrev pub loaded_over : Layout → List ℕ → List ℕ → List ℕ
+loaded_over layout statics memory =
+    put untrusted_start (to_be_bytes w32 resume_word) (with_statics layout statics (static_blocks layout) memory)
+
+-- what memory begins with: these over zeros
 unfoldable pub loaded : Layout → List ℕ → List ℕ
-loaded layout statics =
-    put untrusted_start (to_be_bytes w32 resume_word)
-    (with_statics layout statics (static_blocks layout) (replicate (size_of layout) 0))
+loaded layout statics = loaded_over layout statics (replicate (size_of layout) 0)

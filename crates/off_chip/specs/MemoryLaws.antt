@@ -1,12 +1,12 @@
 -- What follows of bytes that are put into memory, for proofs here and in the crates above.
-use Rattle.std.proofs.Common.{◌≡◌, ℕ, ◌+◌, ◌≤◌, List, ◌++◌, length, take, drop, arith, sym, ◌∙◌, ap, append_assoc, length-append, length-drop}
+use Rattle.std.proofs.Common.{replicate, ◌≡◌, ℕ, ◌+◌, ◌≤◌, List, ◌++◌, length, take, drop, arith, sym, ◌∙◌, ap, append_assoc, add-one, refl, length-append, length-drop}
 use Rattle.std.proofs.lemmas.List.{take_at, drop_at, drop-drop, length-take-le}
 use Rattle.std.proofs.Math.Seq.{take-add}
 use Rattle.aegis_num.specs.declared.storage.Place.{Place}
 use Rattle.aegis_num.specs.declared.storage.Place.TheVariants.{Tree, Log}
 use Rattle.regions.specs.declared.layout.Layout.{Layout}
 use Rattle.regions.specs.Addresses.{open_end}
-use Rattle.off_chip.specs.Memory.{HasPlace, IsWordAddress, bytes_at, put, start_of_place, size_of}
+use Rattle.off_chip.specs.Memory.{HasPlace, IsWordAddress, bytes_at, put, start_of_place, loaded, loaded_over, size_of, stored, static_block, static_place, with_statics}
 
 -- as many bytes as before
 pub length-put : (at : ℕ) (bytes memory : List ℕ) → at + length bytes ≤ length memory → length (put at bytes memory) ≡ length memory
@@ -50,3 +50,18 @@ HasPlace-within layout (Log n) has = omega arith
 -- an open word is among the open bytes
 pub IsWordAddress-within : (at : ℕ) → IsWordAddress at → at + 4 ≤ open_end
 IsWordAddress-within at is = let p = is.is_open in let q = is.aligned in omega arith
+
+-- no static block yet
+pub with_statics-zero : (layout : Layout) (statics memory : List ℕ) → with_statics layout statics 0 memory ≡ memory
+unfolding with_statics
+with_statics-zero layout statics memory = refl
+
+-- one static block more
+pub with_statics-more : (layout : Layout) (statics : List ℕ) (n : ℕ) (memory : List ℕ) → with_statics layout statics (n + 1) memory ≡ put (start_of_place layout (static_place layout n)) (stored (static_block statics n)) (with_statics layout statics n memory)
+unfolding with_statics
+with_statics-more layout statics n memory = ap (λ k. with_statics layout statics k memory) (add-one n)
+
+-- memory begins with zeros and what is put over them
+pub loaded-zeros : (layout : Layout) (statics : List ℕ) → loaded layout statics ≡ loaded_over layout statics (replicate (size_of layout) 0)
+unfolding loaded
+loaded-zeros layout statics = refl

@@ -1,12 +1,15 @@
 //! A memory that answers each read with the last write there.
 ghost use Rattle.std.specs.Prelude.{◌≡◌, ◌*◌, ◌+◌, ◌<◌, ◌^◌, [], length, IfOk, Some};
-ghost use Rattle.off_chip.specs.Memory.{loaded, static_blocks};
+ghost use Rattle.off_chip.specs.Memory.{loaded, loaded_over, size_of, static_blocks, with_statics};
 ghost use Rattle.off_chip.specs.Answers.{IsAnswered};
 
 use crate::bus::OffChip;
 use crate::event::{Event, Mark, Who};
 use crate::recorder::Recorder;
-use crate::stored::{block_at, blocks_of_tree, put_block, put_word, size_of, start_of, word_at};
+use crate::stored::{
+    block_at, blocks_of_tree, put_block, put_word, size_of, start_of, static_block, static_place,
+    word_at,
+};
 use crate::trace::Trace;
 use aegis_num::{Block, OutOfMemory, Place};
 use regions::{Layout, UNTRUSTED_START, leaf};
@@ -43,7 +46,68 @@ impl Model for PlainDram {
         d.memory.items d.recorder.trace d.tree_blocks };
 }
 
+// Puts the static blocks at their places.
+fn put_statics(memory: &mut [u8], layout: &Layout, statics: &[u8])
+    requires memory { length memory.old ≡ size_of layout.now }
+    requires statics { length statics.now ≡ 64 * static_blocks layout.now }
+    ensures { memory.new ≡ with_statics layout.now statics.now (static_blocks layout.now) memory.old }
+{
+    let tree_blocks = blocks_of_tree(layout);
+    for n in 0..layout.constants + layout.code {
+        let start = start_of(tree_blocks, static_place(layout, n));
+        put_block(memory, start, &static_block(statics, n));
+    }
+}
+
+// Puts all that a memory begins with, but for its zeros.
+fn put_all(memory: &mut [u8], layout: &Layout, statics: &[u8])
+    requires memory { length memory.old ≡ size_of layout.now }
+    requires statics { length statics.now ≡ 64 * static_blocks layout.now }
+    ensures { memory.new ≡ loaded_over layout.now statics.now memory.old }
+{
+    put_statics(memory, layout, statics);
+    put_word(memory, UNTRUSTED_START as usize, RESUME_WORD);
+}
+
+// What a memory begins with.
+fn load(alloc: Global, layout: &Layout, statics: &[u8]) -> Result<Vec<u8>, OutOfMemory>
+    requires { length statics.now ≡ 64 * static_blocks layout.now }
+    ensures bytes { IfOk result (λ memory. memory.items ≡ loaded layout.now statics.now) }
+    ensures size { IfOk result (λ memory. length memory.items ≡ size_of layout.now) }
+{
+    let mut memory = vec![in alloc; 0; size_of(layout)]?;
+    put_all(&mut memory, layout, statics);
+    Ok(memory)
+}
+
 impl PlainDram {
+    /// A memory with no event yet, and room for so many. `statics` has the payloads of the constant blocks and
+    /// then those of the code blocks, 64 bytes each. All memory is taken here, and that it ran out is the one error.
+    pub fn new(
+        alloc: Global,
+        layout: &Layout,
+        statics: &[u8],
+        room: u64,
+    ) -> Result<PlainDram, OutOfMemory>
+        requires statics { length statics.now ≡ 64 * static_blocks layout.now }
+        ensures made { IfOk result (λ dram. dram ≡ record {
+          layout = layout.now;
+          statics = statics.now;
+          trace = [];
+          room = room;
+        }) }
+    {
+        let recorder = Recorder::new(alloc, room)?;
+        let memory = load(alloc, layout, statics)?;
+        Ok(PlainDram {
+            layout: *layout,
+            statics: Vec::from_slice(alloc, statics)?,
+            tree_blocks: blocks_of_tree(layout),
+            memory,
+            recorder,
+        })
+    }
+
     /// The events of all calls, oldest first.
     pub fn into_trace(self) -> Trace
         ensures events { result ≡ self.trace }
