@@ -13,5 +13,8 @@ pub use bus::OffChip;
 pub use event::{Event, Mark, Who};
 pub use plain::{PlainDram, RESUME_WORD};
 pub use recorder::Recorder;
-pub use stored::{STORED_BYTES, blocks_of_tree, size_of, start_of, static_block, static_place};
+pub use stored::{
+    STORED_BYTES, WORD_BYTES, block_of_bytes, blocks_of_tree, bytes_of_block, size_of, start_of,
+    static_block, static_place, word_of_bytes,
+};
 pub use trace::Trace;

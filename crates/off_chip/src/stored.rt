@@ -14,7 +14,8 @@ const PAYLOAD_BYTES: usize = 64;
 
 const STAMP_BYTES: usize = 8;
 
-const WORD_BYTES: usize = 4;
+/// How many bytes a word has.
+pub const WORD_BYTES: usize = 4;
 
 /// How many blocks the tree of a layout has: each above the lowest level has three children, and the root is
 /// nobody's child.
@@ -86,7 +87,8 @@ pub(crate) fn block_at(memory: &[u8], start: usize) -> Block
 /// Puts a block over the one at `start`.
 pub(crate) fn put_block(memory: &mut [u8], start: usize, block: &Block)
     requires { start + stored_bytes ≤ length memory.old }
-    ensures { memory.new ≡ put start (stored block.now) memory.old }
+    ensures bytes { memory.new ≡ put start (stored block.now) memory.old }
+    ensures long { length (stored block.now) ≡ stored_bytes }
 {
     put_payload(memory, start, &block.payload);
     put_stamp(memory, start + PAYLOAD_BYTES, block.stamp);
@@ -108,6 +110,29 @@ pub(crate) fn put_word(memory: &mut [u8], at: usize, word: u32)
     ensures { memory.new ≡ put at (to_be_bytes w32 word) memory.old }
 {
     memory[at..at + WORD_BYTES].copy_from_slice(&word.to_be_bytes());
+}
+
+/// The bytes of a block off chip.
+pub fn bytes_of_block(block: &Block) -> [u8; STORED_BYTES]
+    ensures value { result ≡ stored block.now }
+{
+    let mut bytes = [0; STORED_BYTES];
+    put_block(&mut bytes, 0, block);
+    bytes
+}
+
+/// The block that has these bytes off chip.
+pub fn block_of_bytes(bytes: &[u8; STORED_BYTES]) -> Block
+    ensures value { stored result ≡ bytes.now }
+{
+    block_at(bytes, 0)
+}
+
+/// The word that has these bytes off chip.
+pub fn word_of_bytes(bytes: &[u8; WORD_BYTES]) -> u32
+    ensures value { to_be_bytes w32 result ≡ bytes.now }
+{
+    word_at(bytes, 0)
 }
 
 /// The block of constants or code with this number, of those whose payloads stand one after another. Its

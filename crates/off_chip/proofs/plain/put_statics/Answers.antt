@@ -21,7 +21,7 @@ loop-n-preserved c =
     record {
       in_tree = c.loop-n.invariant.in_tree;
       blocks = refl;
-      memory = c.put_block.ensures
+      memory = c.put_block.ensures.bytes
           ∙ ap (λ at. put at (stored c.static_block.result) c.loop-n.memory) start
           ∙ ap (λ block. put (start_of_place layout (static_place layout n)) (stored block) c.loop-n.memory) c.static_block.ensures.value
           ∙ ap (put (start_of_place layout (static_place layout n)) (stored (static_block statics n))) c.loop-n.invariant.memory

@@ -4,8 +4,8 @@ use Rattle.off_chip.specs.Memory.{put}
 use Rattle.off_chip.specs.MemoryLaws.{put-put}
 use Rattle.off_chip.proofs.stored.put_block.Goals as goal
 
-pub returns : goal.returns
-returns c =
+pub returns-clause-bytes : goal.returns-clause-bytes
+returns-clause-bytes c =
     let start = c.args.start in
     let block = c.args.block.now in
     let payload : c.put_payload.new.memory ≡ put start block.payload c.args.memory.now = c.put_payload.ensures in

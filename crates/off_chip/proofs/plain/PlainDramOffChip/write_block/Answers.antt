@@ -13,6 +13,6 @@ invariant_of-self c =
     let memory = c.self.inside.memory.items in
     IsPlainMemory-put (BlockWrite at block) c.start_of.result (stored block) _ _ _ c.self.invariant tt
     (ap (λ n. put n (stored block) memory) start)
-    (c.put_block.ensures ∙ ap (put c.start_of.result (stored block)) c.deref_mut.ensures.value)
+    (c.put_block.ensures.bytes ∙ ap (put c.start_of.result (stored block)) c.deref_mut.ensures.value)
     (omega (arith, c.put_block.auto.memory, ap length c.deref_mut.ensures.value)) (omega (arith, c.deref_mut.ensures.len, ap length c.deref_mut.ensures.value))
     c.append.ensures.event.trace
