@@ -1,0 +1,10 @@
+use Rattle.std.proofs.Common.{◌≡◌, length, take}
+use Rattle.off_chip.specs.Memory.{put}
+use Rattle.scripted_dram.proofs.bytes.put_bytes.Given as goal
+
+-- the bytes so far are put
+abbrev pub invariant-loop-i : goal.invariant-loop-i
+invariant-loop-i l = record {
+  all : l.i-end ≡ length l.bytes;
+  bytes : l.memory ≡ put l.at (take l.i l.bytes) l.fn.memory;
+}

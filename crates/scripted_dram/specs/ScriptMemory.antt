@@ -1,0 +1,119 @@
+-- Off-chip memory under a script: a fold over one finished trace.
+use Rattle.std.specs.Prelude.{ℕ, ◌+◌, nat_eq, nat_le, nat_lt, Bool, true, false, not, ◌&&◌, List, [], ◌∷◌, None, replicate}
+use Rattle.std.specs.List.{filter}
+use Rattle.aegis_num.specs.declared.limits.TheConstants.{SAVE_SLOTS}
+use Rattle.regions.specs.declared.layout.Layout.{Layout}
+use Rattle.adversary_script.specs.declared.change.When.{When}
+use Rattle.adversary_script.specs.declared.change.When.TheVariants.{Start, At, Suspend}
+use Rattle.adversary_script.specs.declared.change.Change.{Change}
+use Rattle.off_chip.specs.declared.event.Event.{Event}
+use Rattle.off_chip.specs.declared.event.Event.TheVariants.{BlockRead, BlockWrite, WordRead, WordWrite, Note}
+use Rattle.off_chip.specs.declared.event.Mark.{Mark}
+use Rattle.off_chip.specs.declared.event.Mark.TheVariants as mark
+use Rattle.off_chip.specs.Memory.{loaded}
+use Rattle.off_chip.specs.Answers.{Holds, after_event}
+use Rattle.scripted_dram.specs.Changes.{State, all_changed}
+
+-- memory and slots, how many events there were, and how many of these were the mark Suspend
+pub record Moment : Type 0 where
+  pub state : State
+  pub events : ℕ
+  pub suspensions : ℕ
+
+-- the change is a `start`
+abbrev pub is_at_start : When → Bool
+is_at_start Start = true
+is_at_start (At n) = false
+is_at_start (Suspend n) = false
+
+-- the change is an `at N` with N at most the number of the next event, and was not done yet: before each earlier event
+-- those with N at most its number were
+abbrev pub is_before_event : ℕ → When → Bool
+is_before_event k Start = false
+is_before_event k (At n) = nat_le n k && not (nat_lt n k)
+is_before_event k (Suspend n) = false
+
+-- the change is a `suspend` of this suspension
+abbrev pub is_at_suspension : ℕ → When → Bool
+is_at_suspension k Start = false
+is_at_suspension k (At n) = false
+is_at_suspension k (Suspend n) = nat_eq n k
+
+-- the changes that are done at such a moment, in order
+abbrev pub changes_at : (When → Bool) → List Change → List Change
+changes_at test script = filter (λ change. test change.when) script
+
+-- what memory begins with: the load, with the `start` changes done
+abbrev pub beginning : Layout → List ℕ → List Change → Moment
+beginning layout statics script = record {
+  state = all_changed layout (changes_at is_at_start script) (record { memory = loaded layout statics; slots = replicate SAVE_SLOTS None });
+  events = 0;
+  suspensions = 0;
+}
+
+-- memory just before the next event: the changes that are due are done
+abbrev pub readied : Layout → List Change → Moment → State
+readied layout script moment = all_changed layout (changes_at (is_before_event moment.events) script) moment.state
+
+-- how many suspensions there were behind a mark
+abbrev pub suspensions_behind : Mark → ℕ → ℕ
+suspensions_behind mark.Enter k = k
+suspensions_behind (mark.Retire who) k = k
+suspensions_behind (mark.Drop place) k = k
+suspensions_behind mark.CheckStart k = k
+suspensions_behind mark.CheckPassed k = k
+suspensions_behind (mark.Sent count) k = k
+suspensions_behind mark.Suspend k = k + 1
+suspensions_behind mark.Resume k = k
+
+-- the changes that follow a mark, behind so many suspensions: those of its number follow the mark Suspend
+abbrev pub changes_behind : Mark → ℕ → List Change → List Change
+changes_behind mark.Enter k script = []
+changes_behind (mark.Retire who) k script = []
+changes_behind (mark.Drop place) k script = []
+changes_behind mark.CheckStart k script = []
+changes_behind mark.CheckPassed k script = []
+changes_behind (mark.Sent count) k script = []
+changes_behind mark.Suspend k script = changes_at (is_at_suspension k) script
+changes_behind mark.Resume k script = []
+
+-- the moment behind an event, from memory just before it
+abbrev pub behind : Layout → List Change → Event → State → Moment → Moment
+behind layout script (BlockRead at block) ready moment =
+    record { state = ready; events = moment.events + 1; suspensions = moment.suspensions }
+behind layout script (BlockWrite at block) ready moment = record {
+  state = record ready { memory = after_event layout (BlockWrite at block) ready.memory };
+  events = moment.events + 1;
+  suspensions = moment.suspensions;
+}
+behind layout script (WordRead by at word) ready moment =
+    record { state = ready; events = moment.events + 1; suspensions = moment.suspensions }
+behind layout script (WordWrite by at word) ready moment = record {
+  state = record ready { memory = after_event layout (WordWrite by at word) ready.memory };
+  events = moment.events + 1;
+  suspensions = moment.suspensions;
+}
+behind layout script (Note mark) ready moment = record {
+  state = all_changed layout (changes_behind mark moment.suspensions script) ready;
+  events = moment.events + 1;
+  suspensions = suspensions_behind mark moment.suspensions;
+}
+
+-- the moment behind the next event
+abbrev pub next : Layout → List Change → Event → Moment → Moment
+next layout script event moment = behind layout script event (readied layout script moment) moment
+
+-- the moment behind events
+abbrev pub after_all : Layout → List Change → List Event → Moment → Moment
+after_all layout script [] moment = moment
+after_all layout script (event ∷ events) moment = after_all layout script events (next layout script event moment)
+
+-- each read of the events holds the bytes that stand at its place just before it
+abbrev pub IsScripted : Layout → List Change → List Event → Moment → Type 0
+IsScripted layout script [] moment = Unit {0}
+IsScripted layout script (event ∷ events) moment =
+    Holds layout (readied layout script moment).memory event × IsScripted layout script events (next layout script event moment)
+
+-- a trace is answered by a script, over the load of a layout and its static blocks
+abbrev pub IsAnsweredBy : Layout → List ℕ → List Change → List Event → Type 0
+IsAnsweredBy layout statics script trace = IsScripted layout script trace (beginning layout statics script)

@@ -1,0 +1,5 @@
+//! Off-chip memory that an adversary changes as a script says.
+#![tactic(auto)]
+
+mod bytes;
+mod storage;

@@ -1,0 +1,126 @@
+//! All bytes of off-chip memory in one region, the slots for blocks, and what each change does to them.
+ghost use Rattle.std.specs.Prelude.{◌≡◌, ◌+◌, ◌≤◌, ◌<◌, length, IfSome};
+ghost use Rattle.regions.specs.Blocks.{data_blocks};
+ghost use Rattle.adversary_script.specs.declared.change.What.TheVariants.{Open, Bytes, Save, Back, Copy};
+ghost use Rattle.off_chip.specs.Memory.{HasPlace, size_of, start_of_place, stored_bytes};
+ghost use Rattle.scripted_dram.specs.Changes.{data_place, place_of, start_of_target};
+ghost use Rattle.scripted_dram.specs.Store.{store_changed};
+
+use crate::bytes::{block_at, put_block, put_bytes, put_whole, put_word, whole_at, word_at};
+use adversary_script::Target;
+use aegis_num::Place;
+use off_chip::{STORED_BYTES, blocks_of_tree, start_of};
+use raw_region::Region;
+use regions::{Layout, leaf};
+use std::marker::Model;
+
+// The place of a data block.
+fn data_place(layout: &Layout, n: u32) -> Place
+    requires { n < data_blocks layout.now }
+    ensures value { result ≡ data_place layout.now n }
+    ensures inside { HasPlace layout.now result }
+{
+    Place::Tree(leaf(layout, n))
+}
+
+// The place of a target, if the layout has it.
+fn place_of(layout: &Layout, target: Target) -> Option<Place>
+    ensures value { result ≡ place_of layout.now target }
+    ensures inside { IfSome result (λ place. HasPlace layout.now place) }
+{
+    let code_start = layout.verified + layout.private + layout.constants;
+    match target {
+        Target::Data(n) if n < code_start + layout.code => Some(data_place(layout, n)),
+        Target::Node(n) if n < blocks_of_tree(layout) => Some(Place::Tree(n)),
+        Target::Text(n) if n < layout.code => Some(data_place(layout, code_start + n)),
+        Target::Log(n) if n < layout.log => Some(Place::Log(n)),
+        _ => None,
+    }
+}
+
+// Where the bytes of a target begin, if the layout has it.
+#[tactic(auto, using(crate::proofs::Within::within))]
+fn start_of_target(layout: &Layout, target: Target) -> Option<usize>
+    ensures value { result ≡ start_of_target layout.now target }
+    ensures within { IfSome result (λ start. start + stored_bytes ≤ size_of layout.now) }
+{
+    let place = place_of(layout, target)?;
+    Some(start_of(blocks_of_tree(layout), place))
+}
+
+/// Off-chip memory, and the blocks that were saved.
+#[derive(Drop)]
+pub struct Storage {
+    layout: Layout,
+    tree_blocks: u32,
+    memory: Region,
+    slots: Vec<Option<[u8; STORED_BYTES]>>,
+}
+
+impl Model for Storage {
+    ghost use Rattle.scripted_dram.specs.Store.{IsStore, Store};
+
+    ghost Value = { Store };
+
+    ghost view = { λ s. record {
+      layout = s.layout;
+      state = record { memory = s.memory; slots = s.slots.items };
+    } };
+
+    ghost invariant = { λ s. IsStore s.layout s.tree_blocks s.memory s.slots.items };
+}
+
+impl Storage {
+    // Writes open bytes.
+    fn open(&mut self, at: u32, bytes: &[u8])
+        requires { at + length bytes.now ≤ 65536 }
+        ensures { self.new ≡ store_changed (Open at bytes.now) self.old }
+    {
+        put_bytes(&mut self.memory, at as usize, bytes);
+    }
+
+    // Writes bytes of a block.
+    fn write(&mut self, target: Target, at: u32, bytes: &[u8])
+        requires { at + length bytes.now ≤ stored_bytes }
+        ensures { self.new ≡ store_changed (Bytes target at bytes.now) self.old }
+    {
+        if let Some(start) = start_of_target(&self.layout, target) {
+            put_bytes(&mut self.memory, start + at as usize, bytes);
+        }
+    }
+
+    // Keeps a block in a slot.
+    fn save(&mut self, slot: u32, target: Target)
+        requires { slot < 16 }
+        ensures { self.new ≡ store_changed (Save slot target) self.old }
+    {
+        if let Some(start) = start_of_target(&self.layout, target) {
+            self.slots[slot as usize] = Some(whole_at(&self.memory, start));
+        }
+    }
+
+    // Puts the block of a slot back over a block.
+    fn back(&mut self, slot: u32, target: Target)
+        requires { slot < 16 }
+        ensures { self.new ≡ store_changed (Back slot target) self.old }
+    {
+        let saved = self.slots[slot as usize];
+        if let (Some(start), Some(bytes)) = (start_of_target(&self.layout, target), saved) {
+            put_whole(&mut self.memory, start, &bytes);
+        }
+    }
+
+    // Puts one block over another.
+    fn copy(&mut self, from: Target, to: Target)
+        ensures { self.new ≡ store_changed (Copy from to) self.old }
+    {
+        let places = (
+            start_of_target(&self.layout, from),
+            start_of_target(&self.layout, to),
+        );
+        if let (Some(from), Some(to)) = places {
+            let bytes = whole_at(&self.memory, from);
+            put_whole(&mut self.memory, to, &bytes);
+        }
+    }
+}
