@@ -31,7 +31,8 @@ pub fn whole_at(memory: &Region, start: usize) -> [u8; STORED_BYTES]
 /// Puts all bytes of a block over those of the one at `start`.
 pub fn put_whole(memory: &mut Region, start: usize, bytes: &[u8; STORED_BYTES])
     requires { start + stored_bytes ≤ length memory.old }
-    ensures { memory.new ≡ put start bytes.now memory.old }
+    ensures bytes { memory.new ≡ put start bytes.now memory.old }
+    ensures size { length memory.new ≡ length memory.old }
 {
     memory.copy_in(start, bytes);
 }
@@ -47,7 +48,8 @@ pub fn block_at(memory: &Region, start: usize) -> Block
 /// Puts a block over the one at `start`.
 pub fn put_block(memory: &mut Region, start: usize, block: &Block)
     requires { start + stored_bytes ≤ length memory.old }
-    ensures { memory.new ≡ put start (stored block.now) memory.old }
+    ensures bytes { memory.new ≡ put start (stored block.now) memory.old }
+    ensures size { length memory.new ≡ length memory.old }
 {
     put_whole(memory, start, &bytes_of_block(block));
 }

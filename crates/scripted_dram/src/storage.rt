@@ -1,15 +1,18 @@
 //! All bytes of off-chip memory in one region, the slots for blocks, and what each change does to them.
-ghost use Rattle.std.specs.Prelude.{◌≡◌, ◌+◌, ◌≤◌, ◌<◌, length, IfSome};
+ghost use Rattle.std.specs.Prelude.{◌≡◌, ◌+◌, ◌≤◌, ◌<◌, true, length, IfSome};
 ghost use Rattle.regions.specs.Blocks.{data_blocks};
 ghost use Rattle.adversary_script.specs.declared.change.What.TheVariants.{Open, Bytes, Save, Back, Copy};
-ghost use Rattle.off_chip.specs.Memory.{HasPlace, size_of, start_of_place, stored_bytes};
+ghost use Rattle.adversary_script.specs.Rules.{is_in_range};
+ghost use Rattle.off_chip.specs.declared.event.Event.TheVariants.{BlockRead, BlockWrite, WordRead, WordWrite};
+ghost use Rattle.off_chip.specs.Answers.{Holds, after_event};
+ghost use Rattle.off_chip.specs.Memory.{HasPlace, IsWordAddress, size_of, start_of_place, stored_bytes};
 ghost use Rattle.scripted_dram.specs.Changes.{data_place, place_of, start_of_target};
-ghost use Rattle.scripted_dram.specs.Store.{store_changed};
+ghost use Rattle.scripted_dram.specs.Store.{store_changed, with_memory};
 
 use crate::bytes::{block_at, put_block, put_bytes, put_whole, put_word, whole_at, word_at};
-use adversary_script::Target;
-use aegis_num::Place;
-use off_chip::{STORED_BYTES, blocks_of_tree, start_of};
+use adversary_script::{Target, What};
+use aegis_num::{Block, Place};
+use off_chip::{STORED_BYTES, Who, blocks_of_tree, start_of};
 use raw_region::Region;
 use regions::{Layout, leaf};
 use std::marker::Model;
@@ -122,5 +125,53 @@ impl Storage {
             let bytes = whole_at(&self.memory, from);
             put_whole(&mut self.memory, to, &bytes);
         }
+    }
+
+    /// Does a change.
+    pub fn change(&mut self, what: &What)
+        requires { is_in_range what.now ≡ true }
+        ensures { self.new ≡ store_changed what.now self.old }
+    {
+        match what {
+            What::Open { at, bytes } => self.open(*at, bytes.as_slice()),
+            What::Bytes { target, at, bytes } => self.write(*target, *at, bytes.as_slice()),
+            What::Save { slot, target } => self.save(*slot, *target),
+            What::Back { slot, target } => self.back(*slot, *target),
+            What::Copy { from, to } => self.copy(*from, *to),
+        }
+    }
+
+    /// The block that stands at a place.
+    pub fn read_block(&self, at: Place) -> Block
+        requires { HasPlace self.now.layout at }
+        ensures { Holds self.now.layout self.now.state.memory (BlockRead at result) }
+    {
+        block_at(&self.memory, start_of(self.tree_blocks, at))
+    }
+
+    /// Puts a block over the one at a place.
+    pub fn write_block(&mut self, at: Place, block: &Block)
+        requires { HasPlace self.old.layout at }
+        ensures { self.new ≡ with_memory
+            (after_event self.old.layout (BlockWrite at block.now) self.old.state.memory) self.old }
+    {
+        put_block(&mut self.memory, start_of(self.tree_blocks, at), block);
+    }
+
+    /// The open word at an address.
+    pub fn read_word(&self, by: Who, at: u32) -> u32
+        requires { IsWordAddress at }
+        ensures { Holds self.now.layout self.now.state.memory (WordRead by at result) }
+    {
+        word_at(&self.memory, at as usize)
+    }
+
+    /// Puts a word over the open one at an address.
+    pub fn write_word(&mut self, by: Who, at: u32, word: u32)
+        requires { IsWordAddress at }
+        ensures { self.new ≡ with_memory
+            (after_event self.old.layout (WordWrite by at word) self.old.state.memory) self.old }
+    {
+        put_word(&mut self.memory, at as usize, word);
     }
 }

@@ -1,0 +1,89 @@
+//! The changes of a script that are due.
+ghost use Rattle.std.specs.Prelude.{◌≡◌, ◌+◌, ◌<◌, ◌^◌, true, length, drop, if◌then◌else◌};
+ghost use Rattle.adversary_script.specs.Rules.{KeepsRules, is_in_range};
+ghost use Rattle.scripted_dram.specs.ScriptMemory.{changes_at, is_at_start};
+ghost use Rattle.scripted_dram.specs.Due.{IsPassed, goes_on, is_above, is_due, is_now, number_of};
+ghost use Rattle.scripted_dram.specs.Store.{all_stored, store_changed};
+
+use crate::storage::Storage;
+use adversary_script::{Change, When};
+
+/// What the number of a change counts.
+#[derive(Clone, Copy)]
+pub enum Count {
+    /// The events before the change.
+    Events,
+    /// The suspensions before the change.
+    Suspensions,
+}
+
+// The number of a change that waits for a count.
+fn number_of(count: Count, when: When) -> Option<u32>
+    ensures { result ≡ number_of count when }
+{
+    match (count, when) {
+        (Count::Events, When::At(n)) | (Count::Suspensions, When::Suspend(n)) => Some(n),
+        _ => None,
+    }
+}
+
+// Whether a change waits for a greater count.
+fn is_above(count: Count, when: When, k: u64) -> bool
+    ensures { result ≡ is_above k (number_of count when) }
+{
+    match number_of(count, when) {
+        Some(n) => u64::from(n) > k,
+        None => false,
+    }
+}
+
+// Whether a change is due at a count.
+fn is_due(count: Count, when: When, k: u64) -> bool
+    ensures { result ≡ is_due count k when }
+{
+    match number_of(count, when) {
+        Some(n) => n as u64 == k,
+        None => false,
+    }
+}
+
+// Whether the change at the cursor may be due.
+fn goes_on(changes: &[Change], cursor: usize, count: Count, k: u64) -> bool
+    ensures value { result ≡ goes_on count k (drop cursor changes.now) }
+    ensures inside { result ≡ true → cursor < length changes.now }
+{
+    cursor < changes.len() && !is_above(count, changes[cursor].when, k)
+}
+
+// Does a change if it is due.
+fn do_if_due(storage: &mut Storage, change: &Change, count: Count, k: u64)
+    requires { is_in_range change.now.what ≡ true }
+    ensures { storage.new ≡ (if is_due count k change.now.when
+        then store_changed change.now.what storage.old else storage.old) }
+{
+    if is_due(count, change.when, k) {
+        storage.change(&change.what);
+    }
+}
+
+/// Does the changes that are due at a count, in order, and answers where the cursor stands then. It goes over
+/// changes that were done or that wait for the other count once.
+pub fn do_due(
+    storage: &mut Storage,
+    changes: &[Change],
+    cursor: usize,
+    count: Count,
+    k: u64,
+) -> usize
+    requires rules { KeepsRules changes.now }
+    requires passed { IsPassed count k changes.now cursor }
+    ensures done { storage.new ≡ all_stored (changes_at (is_due count k) changes.now) storage.old }
+    ensures passed { IsPassed count (k + 1) changes.now result }
+{
+    let mut next = cursor;
+    'due: while goes_on(changes, next, count, k) {
+        do_if_due(storage, &changes[next], count, k);
+        next += 1;
+    }
+    next
+}
