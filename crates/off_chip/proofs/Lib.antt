@@ -1,1 +1,2 @@
 pub mod PlainMemory
+mod Worked

@@ -5,3 +5,11 @@ pub mod Memory
 pub mod MemoryLaws
 pub mod Plain
 pub mod Recorded
+pub mod History
+pub mod Boundaries
+pub mod Writes
+pub mod Faithful
+pub mod Residency
+pub mod Digests
+pub mod Epochs
+pub mod Words

@@ -1,0 +1,253 @@
+-- One trace that has every case, and what each definition says of it. The answers were worked out by hand from the rules.
+use Rattle.std.proofs.Common.{◌≡◌, ℕ, ◌-◌, ◌/◌, ◌≤◌, zero, suc, Bool, true, false, List, [], ◌∷◌, ◌++◌, length, take, drop, eqb, Option, Some, None, refl, lit≤, arith, rules}
+use Rattle.std.specs.Prelude.{if◌then◌else◌}
+use Rattle.std.specs.List.{filter}
+use Rattle.aegis_num.specs.declared.storage.Block.{Block}
+use Rattle.aegis_num.specs.declared.storage.Place.{Place}
+use Rattle.aegis_num.specs.declared.storage.Place.TheVariants.{Tree, Log}
+use Rattle.regions.specs.declared.layout.Layout.{Layout}
+use Rattle.regions.specs.Tree.{height_of}
+use Rattle.off_chip.specs.declared.event.Event.{Event}
+use Rattle.off_chip.specs.declared.event.Event.TheVariants.{BlockRead, BlockWrite, WordRead, WordWrite, Note}
+use Rattle.off_chip.specs.declared.event.Mark.TheVariants.{Enter, Retire, Drop, CheckStart, CheckPassed, Sent, Suspend, Resume}
+use Rattle.off_chip.specs.declared.event.Who.TheVariants.{Secure, Untrusted}
+use Rattle.off_chip.specs.History.{history}
+use Rattle.off_chip.specs.Boundaries.{enter_events, is_boundary, is_step, retired, suspensions}
+use Rattle.off_chip.specs.Writes.{block_writes, last_write, StampsFit}
+use Rattle.off_chip.specs.Faithful.{First, from_image, from_anything, is_faithful, faithful_part}
+use Rattle.off_chip.specs.Residency.{in_check, is_resident}
+use Rattle.off_chip.specs.Digests.{Digests, expected_digest}
+use Rattle.off_chip.specs.Epochs.{Entry, epochs, reads_of, writes_of, open_reads, open_writes, NoReadAbove, AllSentInQuiet}
+use Rattle.off_chip.specs.Words.{Word, words_read, words_written, pieces_sent, bytes_sent}
+
+abbrev block : ℕ → ℕ → Block
+block byte stamp = record { payload = byte ∷ []; stamp = stamp }
+
+-- entering takes six events here: 3 is the one static block, 0 its parent, and the log has two blocks
+abbrev entering : List Event
+entering =
+    Note Enter
+    ∷ BlockRead (Tree 3) (block 7 9)
+    ∷ BlockWrite (Tree 3) (block 7 1)
+    ∷ BlockWrite (Tree 0) (block 30 2)
+    ∷ BlockWrite (Log 0) (block 0 3)
+    ∷ BlockWrite (Log 1) (block 0 4)
+    ∷ []
+
+-- events 6 to 10
+abbrev first_step : List Event
+first_step =
+    BlockRead (Tree 0) (block 30 2)
+    ∷ BlockRead (Tree 3) (block 7 1)
+    ∷ BlockRead (Log 0) (block 0 3)
+    ∷ WordRead Secure 0x8000 5
+    ∷ Note (Retire Secure)
+    ∷ []
+
+-- events 11 to 19
+abbrev second_step : List Event
+second_step =
+    Note (Drop (Tree 3))
+    ∷ BlockWrite (Tree 0) (block 31 5)
+    ∷ BlockWrite (Tree 1) (block 11 6)
+    ∷ WordWrite Secure 0x8004 6
+    ∷ Note Suspend
+    ∷ WordRead Untrusted 0x2000 8
+    ∷ Note (Retire Untrusted)
+    ∷ Note Resume
+    ∷ Note (Retire Secure)
+    ∷ []
+
+-- events 20 to 32: a check that passes, two pieces, and a read of the tree with an old stamp
+abbrev third_step : List Event
+third_step =
+    Note CheckStart
+    ∷ BlockWrite (Log 0) (block 9 7)
+    ∷ BlockRead (Log 0) (block 9 7)
+    ∷ BlockRead (Log 1) (block 0 4)
+    ∷ Note CheckPassed
+    ∷ Note (Sent 3)
+    ∷ Note (Sent 1)
+    ∷ BlockRead (Log 1) (block 0 4)
+    ∷ WordRead Secure 0x8008 7
+    ∷ BlockWrite (Log 1) (block 2 8)
+    ∷ BlockRead (Tree 0) (block 31 4)
+    ∷ WordWrite Secure 0x800c 1
+    ∷ Note (Retire Secure)
+    ∷ []
+
+abbrev trace : List Event
+trace = entering ++ first_step ++ second_step ++ third_step
+
+-- what is before event k, newest first
+abbrev at : ℕ → List Event
+at k = history (take k trace)
+
+-- the numbers below n, and the points of the trace at which a test passes
+abbrev below : ℕ → List ℕ
+below zero = []
+below (suc n) = below n ++ n ∷ []
+
+abbrev points : (List Event → Bool) → List ℕ
+points test = filter (λ k. test (at k)) (below 34)
+
+-- the one static block has the payload 7
+abbrev static : Place → Option (List ℕ)
+static (Tree n) = if eqb n 3 then Some (7 ∷ []) else None
+static (Log n) = None
+
+abbrev image : First
+image = from_image static
+
+-- digests and slots that tell what they were made of
+abbrev tree : Digests
+tree = record { digest = λ n block. n ∷ block.stamp ∷ block.payload; parent = λ n. (n - 1) / 3; slot = λ n payload. n ∷ payload }
+
+abbrev entry : ℕ → ℕ → ℕ → Entry
+entry n byte stamp = record { number = n; payload = byte ∷ []; stamp = stamp }
+
+abbrev word_at : ℕ → ℕ → Word
+word_at at word = record { at = at; word = word }
+
+events : length trace ≡ 33
+events = refl
+
+boundaries : points (is_boundary 6) ≡ 0 ∷ 6 ∷ 11 ∷ 20 ∷ 33 ∷ []
+boundaries = refl
+
+steps : points (is_step 6) ≡ 6 ∷ 11 ∷ 20 ∷ 33 ∷ []
+steps = refl
+
+retired-counts : (retired (at 6) ≡ 0) × (retired (at 10) ≡ 0) × (retired (at 11) ≡ 1) × (retired (at 20) ≡ 2) × (retired trace ≡ 3)
+retired-counts = (refl, refl, refl, refl, refl)
+
+suspensions-counts : (suspensions (at 15) ≡ 0) × (suspensions (at 16) ≡ 1) × (suspensions trace ≡ 1)
+suspensions-counts = (refl, refl, refl)
+
+-- ten data blocks have a tree of height 3, which has 40 blocks; seven of them are static, and the log has five
+abbrev layout : Layout
+layout = record { verified = 1; private = 2; constants = 3; code = 4; log = 5; shared = 12; data_fits = lit≤ tt; log_fits = lit≤ tt; shared_fits = lit≤ tt }
+
+enter_events-counts : enter_events layout ≡ 53
+unfolding height_of
+enter_events-counts = refl
+
+last_writes : (last_write (Tree 0) (at 12) ≡ Some (block 30 2)) × (last_write (Tree 0) (at 13) ≡ Some (block 31 5)) × (last_write (Tree 2) (at 33) ≡ None)
+last_writes = (refl, refl, refl)
+
+-- a place of the tree and one of the log with the same number are two places
+last_writes-log : (last_write (Log 0) (at 21) ≡ Some (block 0 3)) × (last_write (Log 1) (at 33) ≡ Some (block 2 8)) × (last_write (Tree 1) (at 33) ≡ Some (block 11 6))
+last_writes-log = (refl, refl, refl)
+
+writes-counts : (block_writes (at 2) ≡ 0) × (block_writes (at 3) ≡ 1) × (block_writes trace ≡ 8)
+writes-counts = (refl, refl, refl)
+
+stamps : StampsFit 8 (history trace)
+stamps = record { each = search arith; count = refl }
+
+-- the first read of a static block is faithful whatever its stamp; the first unfaithful read has an old stamp
+faithful : faithful_part image trace ≡ take 30 trace
+faithful = refl
+
+faithful-first : (is_faithful image (BlockRead (Tree 3) (block 8 1)) [] ≡ false)
+    × (is_faithful image (BlockRead (Tree 2) (block 7 1)) [] ≡ false)
+    × (is_faithful from_anything (BlockRead (Tree 2) (block 7 1)) [] ≡ true)
+faithful-first = (refl, refl, refl)
+
+-- behind a write the image does not matter
+faithful-written : (is_faithful image (BlockRead (Tree 3) (block 7 9)) (at 3) ≡ false)
+    × (is_faithful image (BlockRead (Log 0) (block 9 3)) (at 21) ≡ false)
+    × (is_faithful from_anything (BlockRead (Log 0) (block 0 7)) (at 22) ≡ false)
+    × (is_faithful image (BlockRead (Log 0) (block 9 7)) (at 22) ≡ true)
+faithful-written = (refl, refl, refl, refl)
+
+checks : points in_check ≡ 21 ∷ 22 ∷ 23 ∷ 24 ∷ []
+checks = refl
+
+resident-0 : points (is_resident (Tree 0)) ≡ 7 ∷ 8 ∷ 9 ∷ 10 ∷ 11 ∷ 12 ∷ 31 ∷ 32 ∷ 33 ∷ []
+resident-0 = refl
+
+-- it is read twice, written, and dropped
+resident-3 : points (is_resident (Tree 3)) ≡ 2 ∷ 8 ∷ 9 ∷ 10 ∷ 11 ∷ []
+resident-3 = refl
+
+resident-1 : points (is_resident (Tree 1)) ≡ []
+resident-1 = refl
+
+-- the reads of the check do not count
+resident-log_0 : points (is_resident (Log 0)) ≡ 9 ∷ 10 ∷ 11 ∷ 12 ∷ 13 ∷ 14 ∷ 15 ∷ 16 ∷ 17 ∷ 18 ∷ 19 ∷ 20 ∷ 21 ∷ []
+resident-log_0 = refl
+
+resident-log_1 : points (is_resident (Log 1)) ≡ 28 ∷ 29 ∷ []
+resident-log_1 = refl
+
+-- only reads of the log can be inside a check, and a check that passed is over
+resident-in_check : (is_resident (Tree 1) (BlockRead (Tree 1) (block 0 0) ∷ Note CheckStart ∷ []) ≡ true)
+    × (is_resident (Log 1) (BlockRead (Log 1) (block 0 0) ∷ Note CheckStart ∷ Note CheckPassed ∷ []) ≡ false)
+resident-in_check = (refl, refl)
+
+-- block 0: its last write, whatever was read
+expected-0 : (expected_digest tree 0 (at 3) ≡ None) × (expected_digest tree 0 (at 12) ≡ Some (0 ∷ 2 ∷ 30 ∷ [])) × (expected_digest tree 0 (at 33) ≡ Some (0 ∷ 5 ∷ 31 ∷ []))
+expected-0 = (refl, refl, refl)
+
+-- its parent is read behind its write, and again
+expected-3 : (expected_digest tree 3 (at 2) ≡ None)
+    × (expected_digest tree 3 (at 6) ≡ Some (3 ∷ 1 ∷ 7 ∷ []))
+    × (expected_digest tree 3 (at 7) ≡ Some (3 ∷ 30 ∷ []))
+    × (expected_digest tree 3 (at 30) ≡ Some (3 ∷ 30 ∷ []))
+    × (expected_digest tree 3 (at 31) ≡ Some (3 ∷ 31 ∷ []))
+expected-3 = (refl, refl, refl, refl, refl)
+
+-- it is written behind a read of its parent
+expected-1 : (expected_digest tree 1 (at 6) ≡ None)
+    × (expected_digest tree 1 (at 13) ≡ Some (1 ∷ 30 ∷ []))
+    × (expected_digest tree 1 (at 14) ≡ Some (1 ∷ 6 ∷ 11 ∷ []))
+    × (expected_digest tree 1 (at 31) ≡ Some (1 ∷ 31 ∷ []))
+expected-1 = (refl, refl, refl, refl)
+
+-- two epochs, the second of which is open
+epochs-two : epochs trace ≡ take 24 trace ∷ take 8 (drop 25 trace) ∷ []
+epochs-two = refl
+
+-- the first epoch at the end of its check
+first_epoch : (open_reads (at 24) ≡ entry 0 0 3 ∷ entry 0 9 7 ∷ entry 1 0 4 ∷ [])
+    × (open_writes (at 24) ≡ entry 0 0 3 ∷ entry 1 0 4 ∷ entry 0 9 7 ∷ [])
+first_epoch = (refl, refl)
+
+-- the open epoch: as written counts what the check of the first one read, its other reads do not
+open_epoch : (open_reads (at 33) ≡ entry 1 0 4 ∷ [])
+    × (open_writes (at 25) ≡ entry 0 9 7 ∷ entry 1 0 4 ∷ [])
+    × (open_writes (at 33) ≡ entry 0 9 7 ∷ entry 1 0 4 ∷ entry 1 2 8 ∷ [])
+open_epoch = (refl, refl, refl)
+
+-- the same in order
+epochs-in_order : (reads_of (take 24 trace) ≡ open_reads (at 24))
+    × (writes_of [] (take 24 trace) ≡ open_writes (at 24))
+    × (writes_of (take 24 trace) (take 8 (drop 25 trace)) ≡ open_writes (at 33))
+epochs-in_order = (refl, refl, refl)
+
+quiet : points (λ older. eqb (length (open_reads older)) 0) ≡ 0 ∷ 1 ∷ 2 ∷ 3 ∷ 4 ∷ 5 ∷ 6 ∷ 7 ∷ 8 ∷ 25 ∷ 26 ∷ 27 ∷ []
+quiet = refl
+
+sent_in_quiet : AllSentInQuiet (at 33)
+sent_in_quiet = search rules
+
+sent_too_early : AllSentInQuiet (Note (Sent 1) ∷ at 24) → ⊥
+sent_too_early all = let e : open_reads (at 24) ≡ [] = all.1 in cc
+
+not_above : NoReadAbove (at 33)
+not_above = search rules
+
+-- eight blocks were written
+above : NoReadAbove (BlockRead (Log 1) (block 2 9) ∷ at 33) → ⊥
+above all = let le : 9 ≤ 8 = all.1 in omega arith
+
+-- one too low, and one too high
+stamps_wrong : (StampsFit 9 (BlockWrite (Log 1) (block 2 8) ∷ at 33) → ⊥) × (StampsFit 9 (BlockWrite (Log 1) (block 2 10) ∷ at 33) → ⊥)
+stamps_wrong = (λ fit. let e : 8 ≡ 9 = fit.each.1 in omega arith, λ fit. let e : 10 ≡ 9 = fit.each.1 in omega arith)
+
+words : (words_read (at 33) ≡ word_at 0x8000 5 ∷ word_at 0x8008 7 ∷ []) × (words_written (at 33) ≡ word_at 0x8004 6 ∷ word_at 0x800c 1 ∷ [])
+words = (refl, refl)
+
+pieces : (pieces_sent (at 33) ≡ 3 ∷ 1 ∷ []) × (bytes_sent (at 33) ≡ 4) × (bytes_sent (at 26) ≡ 3)
+pieces = (refl, refl, refl)
