@@ -1,5 +1,5 @@
 -- Between which events an instruction of the secure program is done.
-use Rattle.std.specs.Prelude.{◌≡◌, ℕ, ◌+◌, ◌≤◌, ◌==◌, nat_le, Bool, true, false, ◌&&◌, ◌||◌, List, [], ◌∷◌, ◌++◌, length, count_by}
+use Rattle.std.specs.Prelude.{◌≡◌, ℕ, ◌+◌, ◌≤◌, ◌==◌, nat_le, Bool, true, false, ◌&&◌, ◌||◌, List, [], ◌∷◌, ◌++◌, length}
 use Rattle.regions.specs.declared.layout.Layout.{Layout}
 use Rattle.regions.specs.Blocks.{data_blocks}
 use Rattle.regions.specs.Tree.{height_of, tree_blocks}
@@ -7,6 +7,7 @@ use Rattle.off_chip.specs.declared.event.Event.{Event}
 use Rattle.off_chip.specs.declared.event.Event.TheVariants.{Note}
 use Rattle.off_chip.specs.declared.event.Mark.TheVariants.{Retire, Suspend}
 use Rattle.off_chip.specs.declared.event.Who.TheVariants.{Secure}
+use Rattle.off_chip.specs.History.{count}
 
 -- an instruction of the secure program was done
 abbrev pub is_retire : Event → Bool
@@ -15,7 +16,7 @@ is_retire event = false
 
 -- how many instructions of the secure program were done. The order of the events does not matter
 abbrev pub retired : List Event → ℕ
-retired events = count_by is_retire events
+retired events = count is_retire events
 
 -- the program was suspended
 abbrev pub is_suspend : Event → Bool
@@ -24,7 +25,7 @@ is_suspend event = false
 
 -- how often the program was suspended
 abbrev pub suspensions : List Event → ℕ
-suspensions events = count_by is_suspend events
+suspensions events = count is_suspend events
 
 -- how many events entering a program takes: its mark, a read of each block of constants and of code, a write of each block of the tree,
 -- and a write of each block of the log

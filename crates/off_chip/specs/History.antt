@@ -1,7 +1,7 @@
 -- The words in which traces are spoken of. A trace is told in order, oldest event first, and its events are counted from 0. What is said
 -- of an event depends on the events before it, so most definitions go back over the history: the same events, newest first.
 -- Each word is given for a history, as proofs by one event more want it, and for a trace in order, as a reader wants it.
-use Rattle.std.specs.Prelude.{◌≡◌, ℕ, Bool, ◌⊎◌, ⊤, List, [], ◌∷◌, ◌++◌, reverse, take, slice_get, Option, Some, None, option_to_list, IsTrue}
+use Rattle.std.specs.Prelude.{◌≡◌, ℕ, Bool, ◌⊎◌, ⊤, List, [], ◌∷◌, ◌++◌, reverse, take, slice_get, Option, Some, None, option_to_list, unwrap_or, if◌then◌else◌, ◌+◌}
 use Rattle.std.specs.Bool.{OnTrue}
 use Rattle.off_chip.specs.declared.event.Event.{Event}
 
@@ -67,9 +67,9 @@ abbrev pub AtEach : (List Event → Bool) → (List Event → Type 0) → List E
 AtEach test P [] = OnTrue (test []) (P [])
 AtEach test P (event ∷ older) = AtEach test P older × OnTrue (test (event ∷ older)) (P (event ∷ older))
 
--- in order: for each way to cut the trace in two, the predicate holds of the first part if that passes the test
-abbrev pub AtEachCut : (List Event → Bool) → (List Event → Type 0) → List Event → Type 0
-AtEachCut test P trace = (before rest : List Event) → trace ≡ before ++ rest → IsTrue (test before) → P before
+-- in order: for each way to cut the trace in two, the second predicate holds of the first part if the first one does
+abbrev pub AtEachCut : (List Event → Type 0) → (List Event → Type 0) → List Event → Type 0
+AtEachCut B P trace = (before rest : List Event) → trace ≡ before ++ rest → B before → P before
 
 -- ---- what the events tell, in order
 
@@ -77,3 +77,13 @@ AtEachCut test P trace = (before rest : List Event) → trace ≡ before ++ rest
 abbrev pub told : {X : Type 0} → (Event → Option X) → List Event → List X
 told f [] = []
 told f (event ∷ older) = told f older ++ option_to_list (f event)
+
+-- at how many events a test passes, in any order
+abbrev pub count : (Event → Bool) → List Event → ℕ
+count test [] = 0
+count test (event ∷ older) = count test older + (if test event then 1 else 0)
+
+-- the sum of the numbers that a function answers at the events, in any order
+abbrev pub total : (Event → Option ℕ) → List Event → ℕ
+total f [] = 0
+total f (event ∷ older) = total f older + unwrap_or (f event) 0

@@ -13,3 +13,5 @@ pub mod Residency
 pub mod Digests
 pub mod Epochs
 pub mod Words
+pub mod HistoryLaws
+pub mod NewestLaws

@@ -1,10 +1,10 @@
 -- The words that the secure program exchanged with the outside, and the bytes that it sent.
-use Rattle.std.specs.Prelude.{ℕ, List, Option, Some, None, sum}
+use Rattle.std.specs.Prelude.{ℕ, List, Option, Some, None}
 use Rattle.off_chip.specs.declared.event.Event.{Event}
 use Rattle.off_chip.specs.declared.event.Event.TheVariants.{WordRead, WordWrite, Note}
 use Rattle.off_chip.specs.declared.event.Mark.TheVariants.{Sent}
 use Rattle.off_chip.specs.declared.event.Who.TheVariants.{Secure}
-use Rattle.off_chip.specs.History.{told}
+use Rattle.off_chip.specs.History.{told, total}
 
 -- a word at an address
 pub record Word : Type 0 where
@@ -39,4 +39,4 @@ pieces_sent older = told sent older
 
 -- how many bytes were sent
 abbrev pub bytes_sent : List Event → ℕ
-bytes_sent older = sum (pieces_sent older)
+bytes_sent older = total sent older

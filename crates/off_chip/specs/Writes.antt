@@ -1,11 +1,11 @@
 -- What was written to off-chip memory in blocks, and the stamps that count these writes.
-use Rattle.std.specs.Prelude.{◌≡◌, ℕ, ◌+◌, ◌==◌, Bool, true, false, ⊤, List, count_by, Option, Some, None, if◌then◌else◌}
+use Rattle.std.specs.Prelude.{◌≡◌, ℕ, ◌+◌, ◌==◌, Bool, true, false, ⊤, List, Option, Some, None, if◌then◌else◌}
 use Rattle.aegis_num.specs.declared.storage.Block.{Block}
 use Rattle.aegis_num.specs.declared.storage.Place.{Place}
 use Rattle.aegis_num.specs.declared.storage.Place.TheVariants.{Tree, Log}
 use Rattle.off_chip.specs.declared.event.Event.{Event}
 use Rattle.off_chip.specs.declared.event.Event.TheVariants.{BlockRead, BlockWrite}
-use Rattle.off_chip.specs.History.{Each, newest, IsLast}
+use Rattle.off_chip.specs.History.{Each, newest, IsLast, count}
 
 -- whether two places are the same
 abbrev pub same_place : Place → Place → Bool
@@ -43,7 +43,7 @@ is_block_write event = false
 
 -- how many block writes there are. The order of the events does not matter
 abbrev pub block_writes : List Event → ℕ
-block_writes events = count_by is_block_write events
+block_writes events = count is_block_write events
 
 -- a block write carries the number of block writes up to it, counted from 1
 abbrev pub StampFits : Event → List Event → Type 0
