@@ -15,3 +15,5 @@ pub mod Epochs
 pub mod Words
 pub mod HistoryLaws
 pub mod NewestLaws
+pub mod BoundaryLaws
+pub mod WriteLaws

@@ -1,5 +1,5 @@
 -- What was written to off-chip memory in blocks, and the stamps that count these writes.
-use Rattle.std.specs.Prelude.{◌≡◌, ℕ, ◌+◌, ◌==◌, Bool, true, false, ⊤, List, Option, Some, None, if◌then◌else◌}
+use Rattle.std.specs.Prelude.{◌≡◌, ℕ, ◌+◌, ◌==◌, Bool, true, false, ⊤, List, length, slice_get, filter_map, Option, Some, None, if◌then◌else◌}
 use Rattle.aegis_num.specs.declared.storage.Block.{Block}
 use Rattle.aegis_num.specs.declared.storage.Place.{Place}
 use Rattle.aegis_num.specs.declared.storage.Place.TheVariants.{Tree, Log}
@@ -54,3 +54,8 @@ StampFits event older = ⊤
 pub record StampsFit (last : ℕ) (older : List Event) : Type 0 where
   pub each : Each StampFits older
   pub count : last ≡ block_writes older
+
+-- in order: block write number k, counted from 1, carries the stamp k, and the last stamp is the number of block writes
+pub record StampsNumbered (last : ℕ) (trace : List Event) : Type 0 where
+  pub each : (k stamp : ℕ) → slice_get (filter_map stamp_written trace) k ≡ Some stamp → stamp ≡ k + 1
+  pub count : last ≡ length (filter_map stamp_written trace)
