@@ -55,7 +55,12 @@ pub data IsFaithfulRead (image : Place → Option (List ℕ)) (before : List Eve
       → IsFaithfulRead image before place block
   as_loaded : filter_map (written_at place) before ≡ [] → image place ≡ Some block.payload → IsFaithfulRead image before place block
 
--- the events behind these, newest first, up to the first unfaithful block read
+-- in order: each block read is faithful, with what is before it
+abbrev pub AllReadsFaithful : (Place → Option (List ℕ)) → List Event → Type 0
+AllReadsFaithful image trace =
+    (before : List Event) (place : Place) (block : Block) (rest : List Event) → trace ≡ before ++ BlockRead place block ∷ rest → IsFaithfulRead image before place block
+
+-- of the events that follow on these, which are newest first, those before the first unfaithful block read
 abbrev pub faithful_from : First → List Event → List Event → List Event
 faithful_from first older [] = []
 faithful_from first older (event ∷ rest) = if is_faithful first event older then event ∷ faithful_from first (event ∷ older) rest else []

@@ -17,3 +17,4 @@ pub mod HistoryLaws
 pub mod NewestLaws
 pub mod BoundaryLaws
 pub mod WriteLaws
+pub mod FaithfulLaws
