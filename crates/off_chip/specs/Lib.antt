@@ -18,3 +18,4 @@ pub mod NewestLaws
 pub mod BoundaryLaws
 pub mod WriteLaws
 pub mod FaithfulLaws
+pub mod ResidencyLaws

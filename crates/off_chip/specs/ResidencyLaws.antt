@@ -1,0 +1,177 @@
+-- What follows of resident places.
+use Rattle.std.proofs.Common.{◌≡◌, ℕ, Bool, true, false, cond, not, ◌&&◌, List, [], ◌∷◌, ◌++◌, Option, Some, None, refl, sym, ap, ◌∙◌, subst}
+use Rattle.std.specs.Prelude.{unwrap_or}
+use Rattle.std.specs.Bool.{Decides}
+use Rattle.std.proofs.lemmas.Bool.{and_parts, both_ways, false_from_ne_true, not-true}
+use Rattle.aegis_num.specs.declared.storage.Block.{Block}
+use Rattle.aegis_num.specs.declared.storage.Place.{Place}
+use Rattle.aegis_num.specs.declared.storage.Place.TheVariants.{Tree, Log}
+use Rattle.off_chip.specs.declared.event.Event.{Event}
+use Rattle.off_chip.specs.declared.event.Event.TheVariants.{BlockRead, BlockWrite, Note}
+use Rattle.off_chip.specs.declared.event.Mark.TheVariants.{Drop, CheckStart, CheckPassed}
+use Rattle.off_chip.specs.History.{history, Each, newest, IsLast}
+use Rattle.off_chip.specs.HistoryLaws.{history-cut, EachCut-Each}
+use Rattle.off_chip.specs.NewestLaws.{newest-IsLast, IsLast-newest}
+use Rattle.off_chip.specs.Writes.{same_place}
+use Rattle.off_chip.specs.WriteLaws.{same_place-Decides, same_place-refl}
+use Rattle.off_chip.specs.Residency.{check_told, in_check, is_log, concerning, is_resident, InCheck, Concerns, tree_read, log_read, write, dropped, IsResident}
+
+unwrap-true : (o : Option Bool) → unwrap_or o false ≡ true → o ≡ Some true
+unwrap-true None same = cc
+unwrap-true (Some b) same = ap (λ (c : Bool). Some c) same
+
+-- ---- inside a check
+
+check_start-event : (event : Event) → check_told event ≡ Some true → event ≡ Note CheckStart
+check_start-event (Note CheckStart) told = refl
+check_start-event event told = cc
+
+check_told-passed : check_told (Note CheckPassed) ≡ None → ⊥
+check_told-passed none = cc
+
+in_check-open : (newer older : List Event) → Each (λ event _. event ≡ Note CheckPassed → ⊥) newer
+    → newest (λ event _. check_told event) (newer ++ Note CheckStart ∷ older) ≡ Some true
+in_check-open [] older each = refl
+in_check-open (Note CheckStart ∷ newer) older each = refl
+in_check-open (Note CheckPassed ∷ newer) older each = absurd (each.1 refl)
+in_check-open (event ∷ newer) older each = in_check-open newer older each.0
+
+pub in_check-Decides : (trace : List Event) → Decides (in_check (history trace)) (InCheck trace)
+in_check-Decides trace = (
+  λ under_way.
+      let last : IsLast (λ event _. check_told event) trace true =
+      newest-IsLast (λ event _. check_told event) (λ event _. check_told event) (λ event before. refl) trace true
+      (unwrap-true (newest (λ event _. check_told event) (history trace)) under_way) in
+      record {
+        earlier = last.before;
+        behind = last.rest;
+        parts = last.parts ∙ ap (λ (e : Event). last.before ++ e ∷ last.rest) (check_start-event last.event last.answer);
+        not_passed = λ between later end split passed.
+            check_told-passed (sym (ap (λ (e : Event). check_told e) passed) ∙ last.nothing_behind between later end split);
+      },
+  λ check.
+      ap (λ (o : Option Bool). unwrap_or o false)
+      (ap (λ (t : List Event). newest (λ event _. check_told event) (history t)) check.parts
+      ∙ ap (λ (h : List Event). newest (λ event _. check_told event) h) (history-cut check.earlier (Note CheckStart) check.behind)
+      ∙ in_check-open (history check.behind) (history check.earlier)
+      (EachCut-Each (λ event _. event ≡ Note CheckPassed → ⊥) (λ event _. event ≡ Note CheckPassed → ⊥) (λ event older same. same) check.behind check.not_passed)),
+)
+
+-- ---- what concerns a place
+
+pub concerning-tree : (n : ℕ) (block : Block) (older : List Event) → concerning (Tree n) (BlockRead (Tree n) block) older ≡ Some true
+concerning-tree n block older = ap (λ (b : Bool). cond (b && true) (Some true) None) (same_place-refl (Tree n))
+
+pub concerning-log : (n : ℕ) (block : Block) (older : List Event) → in_check older ≡ false → concerning (Log n) (BlockRead (Log n) block) older ≡ Some true
+concerning-log n block older outside =
+    ap (λ (b : Bool). cond (b && not (in_check older)) (Some true) None) (same_place-refl (Log n))
+    ∙ ap (λ (b : Bool). cond (not b) (Some true) None) outside
+
+pub concerning-write : (place : Place) (block : Block) (older : List Event) → concerning place (BlockWrite place block) older ≡ Some false
+concerning-write place block older = ap (λ (b : Bool). cond b (Some false) None) (same_place-refl place)
+
+pub concerning-drop : (place : Place) (older : List Event) → concerning place (Note (Drop place)) older ≡ Some false
+concerning-drop place older = ap (λ (b : Bool). cond b (Some false) None) (same_place-refl place)
+
+outside-check : (before : List Event) → (InCheck before → ⊥) → in_check (history before) ≡ false
+outside-check before outside = false_from_ne_true (in_check (history before)) (λ under_way. outside ((in_check-Decides before).0 under_way))
+
+concerns-none : (place : Place) (before : List Event) (event : Event) → Concerns place before event → concerning place event (history before) ≡ None → ⊥
+concerns-none place before event (tree_read n block is same) none =
+    let e : concerning place event (history before) ≡ Some true =
+    ap (λ (e : Event). concerning place e (history before)) same
+    ∙ ap (λ (p : Place). concerning p (BlockRead p block) (history before)) is
+    ∙ concerning-tree n block (history before) in cc
+concerns-none place before event (log_read n block is same outside) none =
+    let e : concerning place event (history before) ≡ Some true =
+    ap (λ (e : Event). concerning place e (history before)) same
+    ∙ ap (λ (p : Place). concerning p (BlockRead p block) (history before)) is
+    ∙ concerning-log n block (history before) (outside-check before outside) in cc
+concerns-none place before event (write block same) none =
+    let e : concerning place event (history before) ≡ Some false =
+    ap (λ (e : Event). concerning place e (history before)) same ∙ concerning-write place block (history before) in cc
+concerns-none place before event (dropped same) none =
+    let e : concerning place event (history before) ≡ Some false =
+    ap (λ (e : Event). concerning place e (history before)) same ∙ concerning-drop place (history before) in cc
+
+cond-some : (b : Bool) (x y : Bool) → cond b (Some x) None ≡ Some y → (b ≡ true) × (x ≡ y)
+cond-some true x y same = (refl, cc)
+cond-some false x y same = cc
+
+read-concerns : (place : Place) (before : List Event) (block : Block) → not (is_log place && in_check (history before)) ≡ true → Concerns place before (BlockRead place block)
+read-concerns (Tree n) before block outside = tree_read n block refl refl
+read-concerns (Log n) before block outside =
+    log_read n block refl refl (λ check. both_ways (in_check (history before)) (not-true (in_check (history before)) outside) ((in_check-Decides before).1 check))
+
+some-concerns : (place : Place) (before : List Event) (event : Event) (tells : Bool) → concerning place event (history before) ≡ Some tells → Concerns place before event
+some-concerns place before (BlockRead at block) tells same =
+    let tests = (cond-some (same_place place at && not (is_log at && in_check (history before))) true tells same).0 in
+    let parts = and_parts (same_place place at) (not (is_log at && in_check (history before))) tests in
+    let e : place ≡ at = (same_place-Decides place at).0 parts.0 in
+    subst (λ (p : Place). Concerns place before (BlockRead p block)) e
+    (read-concerns place before block (ap (λ (p : Place). not (is_log p && in_check (history before))) e ∙ parts.1))
+some-concerns place before (BlockWrite at block) tells same =
+    let e : place ≡ at = (same_place-Decides place at).0 (cond-some (same_place place at) false tells same).0 in
+    write block (ap (λ (p : Place). BlockWrite p block) (sym e))
+some-concerns place before (Note (Drop at)) tells same =
+    let e : place ≡ at = (same_place-Decides place at).0 (cond-some (same_place place at) false tells same).0 in
+    dropped (ap (λ (p : Place). Note (Drop p)) (sym e))
+some-concerns place before event tells same = cc
+
+-- only a read makes a place resident
+concerning-read : (place : Place) (event : Event) (older : List Event) → concerning place event older ≡ Some true → (block : Block) × (event ≡ BlockRead place block)
+concerning-read place (BlockRead at block) older same =
+    let tests = (cond-some (same_place place at && not (is_log at && in_check older)) true true same).0 in
+    let e : place ≡ at = (same_place-Decides place at).0 (and_parts (same_place place at) (not (is_log at && in_check older)) tests).0 in
+    (block, ap (λ (p : Place). BlockRead p block) (sym e))
+concerning-read place (BlockWrite at block) older same = let e : false ≡ true = (cond-some (same_place place at) false true same).1 in cc
+concerning-read place (Note (Drop at)) older same = let e : false ≡ true = (cond-some (same_place place at) false true same).1 in cc
+concerning-read place event older same = cc
+
+concerns-read : (place : Place) (before : List Event) (block : Block) → Concerns place before (BlockRead place block) → concerning place (BlockRead place block) (history before) ≡ Some true
+concerns-read place before block concerns = by (concerning place (BlockRead place block) (history before)) refl
+  where
+    by : (o : Option Bool) → concerning place (BlockRead place block) (history before) ≡ o → concerning place (BlockRead place block) (history before) ≡ Some true
+    by None none = absurd (concerns-none place before (BlockRead place block) concerns none)
+    by (Some tells) some =
+        some ∙ ap (λ (b : Bool). Some b) (sym (cond-some (same_place place place && not (is_log place && in_check (history before))) true tells some).1)
+
+nothing-by : (place : Place) (before : List Event) (event : Event) → (Concerns place before event → ⊥) → (o : Option Bool)
+    → concerning place event (history before) ≡ o → concerning place event (history before) ≡ None
+nothing-by place before event apart None same = same
+nothing-by place before event apart (Some tells) same = absurd (apart (some-concerns place before event tells same))
+
+nothing-concerns : (place : Place) (before : List Event) (event : Event) → (Concerns place before event → ⊥) → concerning place event (history before) ≡ None
+nothing-concerns place before event apart = nothing-by place before event apart (concerning place event (history before)) refl
+
+-- ---- resident places, in order
+
+pub is_resident-Decides : (place : Place) (trace : List Event) → Decides (is_resident place (history trace)) (IsResident place trace)
+is_resident-Decides place trace = (
+  λ resident.
+      let last : IsLast (λ event before. concerning place event (history before)) trace true =
+      newest-IsLast (concerning place) (λ event before. concerning place event (history before)) (λ event before. refl) trace true
+      (unwrap-true (newest (concerning place) (history trace)) resident) in
+      let read = concerning-read place last.event (history last.before) last.answer in
+      record {
+        before = last.before;
+        block = read.0;
+        rest = last.rest;
+        parts = last.parts ∙ ap (λ (e : Event). last.before ++ e ∷ last.rest) read.1;
+        concerns = some-concerns place last.before (BlockRead place read.0) true
+            (sym (ap (λ (e : Event). concerning place e (history last.before)) read.1) ∙ last.answer);
+        nothing_behind = λ between later end split concerns. concerns-none place (last.before ++ last.event ∷ between) later
+            (subst (λ (e : Event). Concerns place (last.before ++ e ∷ between) later) (sym read.1) concerns) (last.nothing_behind between later end split);
+      },
+  λ resident.
+      ap (λ (o : Option Bool). unwrap_or o false)
+      (IsLast-newest (concerning place) (λ event before. concerning place event (history before)) (λ event before. refl) trace true (record {
+        before = resident.before;
+        event = BlockRead place resident.block;
+        rest = resident.rest;
+        parts = resident.parts;
+        answer = concerns-read place resident.before resident.block resident.concerns;
+        nothing_behind = λ between later end split.
+            nothing-concerns place (resident.before ++ BlockRead place resident.block ∷ between) later (resident.nothing_behind between later end split);
+      })),
+)
