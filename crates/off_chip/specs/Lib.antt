@@ -19,3 +19,4 @@ pub mod BoundaryLaws
 pub mod WriteLaws
 pub mod FaithfulLaws
 pub mod ResidencyLaws
+pub mod DigestLaws
