@@ -5,12 +5,13 @@ use Rattle.std.specs.Bool.{OnTrue, OnFalse}
 use Rattle.std.specs.List.{slice_split}
 use Rattle.aegis_num.specs.declared.storage.Block.{Block}
 use Rattle.aegis_num.specs.declared.storage.Place.TheVariants.{Log}
+use Rattle.aegis_num.specs.declared.storage.Place.{Place}
 use Rattle.off_chip.specs.declared.event.Event.{Event}
 use Rattle.off_chip.specs.declared.event.Event.TheVariants.{BlockRead, BlockWrite, Note}
 use Rattle.off_chip.specs.declared.event.Mark.TheVariants.{CheckStart, CheckPassed, Sent}
-use Rattle.off_chip.specs.History.{Each, told}
+use Rattle.off_chip.specs.History.{Each, EachCut, told}
 use Rattle.off_chip.specs.Writes.{block_writes}
-use Rattle.off_chip.specs.Faithful.{First, is_faithful}
+use Rattle.off_chip.specs.Faithful.{First, is_faithful, IsFaithfulRead}
 use Rattle.off_chip.specs.Residency.{in_check}
 
 -- an entry of the log: the number of a block, its payload and its stamp
@@ -103,6 +104,12 @@ is_log_read event = false
 -- the open epoch is faithful: each of its log reads is
 abbrev pub EpochFaithful : First → List Event → Type 0
 EpochFaithful first older = EachSince is_passed (λ event older. OnTrue (is_log_read event) (IsTrue (is_faithful first event older))) older
+
+-- in order: each log read behind the last passed check is faithful
+abbrev pub OpenReadsFaithful : (Place → Option (List ℕ)) → List Event → Type 0
+OpenReadsFaithful image trace =
+    (before : List Event) (n : ℕ) (block : Block) (rest : List Event) → trace ≡ before ++ BlockRead (Log n) block ∷ rest
+    → EachCut (λ event _. event ≡ Note CheckPassed → ⊥) rest → IsFaithfulRead image before (Log n) block
 
 -- each epoch that has ended is faithful
 abbrev pub EndedFaithful : First → List Event → Type 0

@@ -20,3 +20,4 @@ pub mod WriteLaws
 pub mod FaithfulLaws
 pub mod ResidencyLaws
 pub mod DigestLaws
+pub mod EpochLaws
