@@ -1,50 +1,27 @@
 -- What follows of the epochs of the log.
-use Rattle.std.proofs.Common.{◌≡◌, ℕ, Bool, true, false, cond, ◌||◌, List, [], ◌∷◌, ◌++◌, Option, Some, None, refl, sym, ap, ◌∙◌, subst, inl, inr, ◌⊎◌}
+use Rattle.std.proofs.Common.{◌≡◌, ℕ, Bool, true, false, cond, ◌||◌, List, [], ◌∷◌, ◌++◌, Option, Some, None, refl, sym, ap, ◌∙◌, subst, inl, inr}
 use Rattle.std.specs.Prelude.{IsTrue, ◌↔◌, filter_map, option_to_list}
 use Rattle.std.specs.Bool.{OnTrue}
-use Rattle.std.specs.List.{slice_split, onto_first, list_any, cons_option}
-use Rattle.std.proofs.lemmas.Bool.{OnTrue_from, OnFalse_at, OnFalse_from, or_parts, or_from, or_right, both_ways}
+use Rattle.std.specs.List.{list_any, cons_option}
+use Rattle.std.proofs.lemmas.Bool.{OnTrue_from, or_right, both_ways}
 use Rattle.std.proofs.lemmas.List.{append-nil, append_assoc}
 use Rattle.std.proofs.lemmas.List.Elements.{filter_map-append}
 use Rattle.std.proofs.lemmas.List.Folds.{list_any-append}
-use Rattle.std.proofs.lemmas.List.Splits.{slice_split-cons_yes}
 use Rattle.aegis_num.specs.declared.storage.Block.{Block}
 use Rattle.aegis_num.specs.declared.storage.Place.{Place}
 use Rattle.aegis_num.specs.declared.storage.Place.TheVariants.{Log}
 use Rattle.off_chip.specs.declared.event.Event.{Event}
 use Rattle.off_chip.specs.declared.event.Event.TheVariants.{BlockRead, Note}
 use Rattle.off_chip.specs.declared.event.Mark.TheVariants.{CheckStart, CheckPassed}
-use Rattle.off_chip.specs.History.{history, Each, EachCut, told}
-use Rattle.off_chip.specs.HistoryLaws.{history-append, history-cut, history-history, cut-history}
-use Rattle.off_chip.specs.NewestLaws.{told-history}
+use Rattle.off_chip.specs.History.{history, Each, EachCut, EachSince, told, since, until}
+use Rattle.off_chip.specs.HistoryLaws.{history-cut, history-history, cut-history}
+use Rattle.off_chip.specs.SplitLaws.{split-some, split-append, split-one, split-open, last-part, any-history, nil-push, push-same, told-turn, EachSince-at, EachSince-from}
 use Rattle.off_chip.specs.Faithful.{First, from_image, is_faithful, IsFaithfulRead}
 use Rattle.off_chip.specs.FaithfulLaws.{is_faithful-Decides}
 use Rattle.off_chip.specs.Residency.{in_check}
-use Rattle.off_chip.specs.Epochs.{Entry, log_read, log_written, is_passed, is_check_start, epochs, check_of, reads_of, writes_of, since, until, open_reads, check_reads, open_writes, EachSince, is_log_read, EpochFaithful, OpenReadsFaithful, EndedFaithful}
+use Rattle.off_chip.specs.Epochs.{Entry, log_read, log_written, is_passed, is_check_start, epochs, check_of, reads_of, writes_of, open_reads, check_reads, open_writes, is_log_read, EpochFaithful, OpenReadsFaithful, EndedFaithful}
 
 -- ---- the epochs of a trace
-
-split-some : (p : Event → Bool) (trace : List Event) → slice_split p trace ≡ [] → ⊥
-split-some p [] same = cc
-split-some p (event ∷ rest) same = by (p event) (slice_split p rest) same
-  where
-    by : (b : Bool) (parts : List (List Event)) → cond b ([] ∷ parts) (onto_first event parts) ≡ [] → ⊥
-    by true parts same = cc
-    by false [] same = cc
-    by false (part ∷ parts) same = cc
-
-split-more : (b : Bool) (event : Event) (parts more : List (List Event)) → (parts ≡ [] → ⊥)
-    → cond b ([] ∷ (parts ++ more)) (onto_first event (parts ++ more)) ≡ cond b ([] ∷ parts) (onto_first event parts) ++ more
-split-more b event [] more some = absurd (some refl)
-split-more true event (part ∷ parts) more some = refl
-split-more false event (part ∷ parts) more some = refl
-
-split-append : (p : Event → Bool) (trace : List Event) (event : Event) (rest : List Event) → p event ≡ true
-    → slice_split p (trace ++ event ∷ rest) ≡ slice_split p trace ++ slice_split p rest
-split-append p [] event rest passes = slice_split-cons_yes p event rest passes
-split-append p (first ∷ trace) event rest passes =
-    ap (λ (parts : List (List Event)). cond (p first) ([] ∷ parts) (onto_first first parts)) (split-append p trace event rest passes)
-    ∙ split-more (p first) first (slice_split p trace) (slice_split p rest) (split-some p trace)
 
 -- a passed check cuts the trace into epochs
 pub epochs-cut : (before rest : List Event) → epochs (before ++ Note CheckPassed ∷ rest) ≡ epochs before ++ epochs rest
@@ -52,91 +29,16 @@ epochs-cut before rest = split-append is_passed before (Note CheckPassed) rest r
 
 -- without a passed check there is one epoch
 pub epochs-one : (trace : List Event) → list_any is_passed trace ≡ false → epochs trace ≡ trace ∷ []
-epochs-one [] none = refl
-epochs-one (Note CheckPassed ∷ rest) none = cc
-epochs-one (event ∷ rest) none = ap (λ (parts : List (List Event)). onto_first event parts) (epochs-one rest none)
-
--- ---- the events since the last passed check
-
-passed-event : (event : Event) → is_passed event ≡ true → event ≡ Note CheckPassed
-passed-event (Note CheckPassed) passed = refl
-passed-event event passed = cc
-
-pub since-none : (older : List Event) → list_any is_passed (since is_passed older) ≡ false
-since-none [] = refl
-since-none (Note CheckPassed ∷ older) = refl
-since-none (event ∷ older) = since-none older
-
--- there is no passed check, or the last one stands between the two parts
-pub since-until : (older : List Event)
-    → ((older ≡ since is_passed older) × (until is_passed older ≡ [])) ⊎ (older ≡ since is_passed older ++ Note CheckPassed ∷ until is_passed older)
-since-until [] = inl (refl, refl)
-since-until (Note CheckPassed ∷ older) = inr refl
-since-until (event ∷ older) =
-    elim (since-until older) [
-      | inl none ↦ inl (ap (λ (xs : List Event). event ∷ xs) none.0, none.1)
-      | inr some ↦ inr (ap (λ (xs : List Event). event ∷ xs) some)
-    ]
-
-any-history : (test : Event → Bool) (trace : List Event) → list_any test (history trace) ≡ list_any test trace
-any-history test [] = refl
-any-history test (event ∷ rest) =
-    ap (λ (h : List Event). list_any test h) (history-append (event ∷ []) rest)
-    ∙ list_any-append test (history rest) (event ∷ [])
-    ∙ by (test event) (list_any test (history rest)) (list_any test rest) (any-history test rest)
-  where
-    by : (a b c : Bool) → b ≡ c → (b || (a || false)) ≡ (a || c)
-    by true true c same = refl
-    by true false c same = refl
-    by false true c same = same
-    by false false c same = same
+epochs-one trace none = split-one is_passed trace none
 
 -- the open epoch, as events in order
 abbrev open_epoch : List Event → List Event
 open_epoch older = history (since is_passed older)
 
-open_epoch-one : (older : List Event) → epochs (open_epoch older) ≡ open_epoch older ∷ []
-open_epoch-one older = epochs-one (open_epoch older) (any-history is_passed (since is_passed older) ∙ since-none older)
-
--- the open epoch is the only one of the trace, or it stands behind those before the last passed check
-pub epochs-open : (trace : List Event)
-    → ((epochs trace ≡ open_epoch (history trace) ∷ []) × (until is_passed (history trace) ≡ []))
-    ⊎ (epochs trace ≡ epochs (history (until is_passed (history trace))) ++ open_epoch (history trace) ∷ [])
-epochs-open trace =
-    elim (since-until (history trace)) [
-      | inl none ↦ inl
-          (ap (λ (t : List Event). epochs t) (sym (history-history trace) ∙ ap (λ (h : List Event). history h) none.0) ∙ open_epoch-one (history trace), none.1)
-      | inr some ↦ inr
-          (ap (λ (t : List Event). epochs t) (cut-history trace (since is_passed (history trace)) (Note CheckPassed) (until is_passed (history trace)) some)
-          ∙ epochs-cut (history (until is_passed (history trace))) (open_epoch (history trace))
-          ∙ ap (λ (parts : List (List Event)). epochs (history (until is_passed (history trace))) ++ parts) (open_epoch-one (history trace)))
-    ]
-
-nil-push : {X : Type 0} (xs : List X) (x : X) → [] ≡ xs ++ x ∷ [] → ⊥
-nil-push [] x same = cc
-nil-push (y ∷ xs) x same = cc
-
-push-same : {X : Type 0} (xs ys : List X) (x y : X) → xs ++ x ∷ [] ≡ ys ++ y ∷ [] → (xs ≡ ys) × (x ≡ y)
-push-same [] [] x y same = (refl, cc)
-push-same [] (z ∷ ys) x y same = let e : [] ≡ ys ++ y ∷ [] = cc in absurd (nil-push ys y e)
-push-same (z ∷ xs) [] x y same = let e : [] ≡ xs ++ x ∷ [] = cc in absurd (nil-push xs x e)
-push-same (z ∷ xs) (w ∷ ys) x y same =
-    let head : z ≡ w = cc in
-    let tail : xs ++ x ∷ [] ≡ ys ++ y ∷ [] = cc in
-    let rest = push-same xs ys x y tail in
-    (ap (λ (e : _). e ∷ xs) head ∙ ap (λ (es : List _). w ∷ es) rest.0, rest.1)
-
 pub last-epoch : (trace : List Event) (earlier : List (List Event)) (epoch : List Event) → epochs trace ≡ earlier ++ epoch ∷ [] → open_epoch (history trace) ≡ epoch
-last-epoch trace earlier epoch same =
-    elim (epochs-open trace) [
-      | inl one ↦ (push-same [] earlier (open_epoch (history trace)) epoch (sym one.0 ∙ same)).1
-      | inr more ↦ (push-same (epochs (history (until is_passed (history trace)))) earlier (open_epoch (history trace)) epoch (sym more ∙ same)).1
-    ]
+last-epoch trace earlier epoch same = last-part is_passed trace earlier epoch same
 
 -- ---- reads
-
-told-turn : {X : Type 0} (f : Event → Option X) (older : List Event) → told f older ≡ filter_map f (history older)
-told-turn f older = ap (λ (h : List Event). told f h) (sym (history-history older)) ∙ told-history f (history older)
 
 pub open_reads-in_order : (trace : List Event) (earlier : List (List Event)) (epoch : List Event) → epochs trace ≡ earlier ++ epoch ∷ []
     → open_reads (history trace) ≡ reads_of epoch
@@ -210,7 +112,7 @@ pub open_writes-first : (trace : List Event) (epoch : List Event) → epochs tra
 open_writes-first trace epoch same =
     let written : told log_written (since is_passed (history trace)) ≡ filter_map log_written epoch =
     told-turn log_written (since is_passed (history trace)) ∙ ap (λ (xs : List Event). filter_map log_written xs) (last-epoch trace [] epoch same) in
-    elim (epochs-open trace) [
+    elim (split-open is_passed trace) [
       | inl one ↦ ap (λ (h : List Event). check_reads h ++ told log_written (since is_passed (history trace))) one.1 ∙ written
       | inr more ↦ absurd (split-some is_passed (history (until is_passed (history trace)))
           (push-same (epochs (history (until is_passed (history trace)))) [] (open_epoch (history trace)) epoch (sym more ∙ same)).0)
@@ -222,7 +124,7 @@ open_writes-later trace earlier previous epoch same =
     let pushed : epochs trace ≡ (earlier ++ previous ∷ []) ++ epoch ∷ [] = same ∙ sym (append_assoc earlier (previous ∷ []) (epoch ∷ [])) in
     let written : told log_written (since is_passed (history trace)) ≡ filter_map log_written epoch =
     told-turn log_written (since is_passed (history trace)) ∙ ap (λ (xs : List Event). filter_map log_written xs) (last-epoch trace (earlier ++ previous ∷ []) epoch pushed) in
-    elim (epochs-open trace) [
+    elim (split-open is_passed trace) [
       | inl one ↦ absurd (nil-push earlier previous (push-same [] (earlier ++ previous ∷ []) (open_epoch (history trace)) epoch (sym one.0 ∙ pushed)).0)
       | inr more ↦
           let before : epochs (history (until is_passed (history trace))) ≡ earlier ++ previous ∷ [] =
@@ -240,24 +142,6 @@ pub open_writes-passed : (older : List Event) → open_writes (Note CheckPassed 
 open_writes-passed older = append-nil (check_reads older)
 
 -- ---- faithful epochs
-
-pub EachSince-at : (test : Event → Bool) (P : Event → List Event → Type 0) (newer : List Event) (event : Event) (older : List Event)
-    → list_any test newer ≡ false → test event ≡ false → EachSince test P (newer ++ event ∷ older) → P event older
-EachSince-at test P [] event older none not_test each = (OnFalse_at not_test each).1
-EachSince-at test P (first ∷ newer) event older none not_test each =
-    let parts : (test first ≡ false) × (list_any test newer ≡ false) = or_parts (test first) (list_any test newer) none in
-    EachSince-at test P newer event older parts.1 not_test (OnFalse_at parts.0 each).0
-
-pub EachSince-from : (test : Event → Bool) (P : Event → List Event → Type 0) (whole : List Event)
-    → ((newer : List Event) (event : Event) (older : List Event) → whole ≡ newer ++ event ∷ older → list_any test newer ≡ false → test event ≡ false → P event older)
-    → EachSince test P whole
-EachSince-from test P [] holds = tt
-EachSince-from test P (event ∷ older) holds =
-    OnFalse_from (test event) (EachSince test P older × P event older) (λ not_test. (
-      EachSince-from test P older (λ newer later oldest same none other. holds (event ∷ newer) later oldest (ap (λ (xs : List Event). event ∷ xs) same)
-          (or_from (test event) (list_any test newer) not_test none) other),
-      holds [] event older refl refl not_test,
-    ))
 
 passed-none : (rest : List Event) → EachCut (λ event _. event ≡ Note CheckPassed → ⊥) rest → list_any is_passed rest ≡ false
 passed-none [] none = refl

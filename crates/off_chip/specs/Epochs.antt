@@ -1,7 +1,7 @@
 -- The epochs of the log: what was read and what was written of it between one passed check and the next, after the offline checks of
 -- Suh et al., "Efficient Memory Integrity Verification and Encryption for Secure Processors", MICRO 2003.
 use Rattle.std.specs.Prelude.{◌≡◌, ℕ, ◌≤◌, Bool, true, false, ⊤, List, [], ◌∷◌, ◌++◌, filter_map, Option, Some, None, option_to_list, IsTrue, if◌then◌else◌}
-use Rattle.std.specs.Bool.{OnTrue, OnFalse}
+use Rattle.std.specs.Bool.{OnTrue}
 use Rattle.std.specs.List.{slice_split}
 use Rattle.aegis_num.specs.declared.storage.Block.{Block}
 use Rattle.aegis_num.specs.declared.storage.Place.TheVariants.{Log}
@@ -9,7 +9,7 @@ use Rattle.aegis_num.specs.declared.storage.Place.{Place}
 use Rattle.off_chip.specs.declared.event.Event.{Event}
 use Rattle.off_chip.specs.declared.event.Event.TheVariants.{BlockRead, BlockWrite, Note}
 use Rattle.off_chip.specs.declared.event.Mark.TheVariants.{CheckStart, CheckPassed, Sent}
-use Rattle.off_chip.specs.History.{Each, EachCut, told}
+use Rattle.off_chip.specs.History.{Each, EachCut, EachSince, told, since, until}
 use Rattle.off_chip.specs.Writes.{block_writes}
 use Rattle.off_chip.specs.Faithful.{First, is_faithful, IsFaithfulRead}
 use Rattle.off_chip.specs.Residency.{in_check}
@@ -63,16 +63,6 @@ writes_of previous epoch = reads_of (check_of previous) ++ filter_map log_writte
 
 -- ---- over the history
 
--- the events behind the latest one that passes a test, newest first
-abbrev pub since : (Event → Bool) → List Event → List Event
-since test [] = []
-since test (event ∷ older) = if test event then [] else event ∷ since test older
-
--- the events before the latest one that passes a test, newest first
-abbrev pub until : (Event → Bool) → List Event → List Event
-until test [] = []
-until test (event ∷ older) = if test event then older else until test older
-
 -- the reads of the open epoch
 abbrev pub open_reads : List Event → List Entry
 open_reads older = told log_read (since is_passed older)
@@ -90,11 +80,6 @@ open_writes older = check_reads (until is_passed older) ++ told log_written (sin
 -- the open epoch holds no log read
 abbrev pub IsQuiet : List Event → Type 0
 IsQuiet older = open_reads older ≡ []
-
--- a predicate holds of each event behind the latest one that passes a test, and of what is older than it
-abbrev pub EachSince : (Event → Bool) → (Event → List Event → Type 0) → List Event → Type 0
-EachSince test P [] = ⊤
-EachSince test P (event ∷ older) = OnFalse (test event) (EachSince test P older × P event older)
 
 -- whether an event is a log read
 abbrev pub is_log_read : Event → Bool

@@ -2,7 +2,7 @@
 -- of an event depends on the events before it, so most definitions go back over the history: the same events, newest first.
 -- Each word is given for a history, as proofs by one event more want it, and for a trace in order, as a reader wants it.
 use Rattle.std.specs.Prelude.{◌≡◌, ℕ, Bool, ◌⊎◌, ⊤, List, [], ◌∷◌, ◌++◌, reverse, take, slice_get, Option, Some, None, option_to_list, unwrap_or, if◌then◌else◌, ◌+◌}
-use Rattle.std.specs.Bool.{OnTrue}
+use Rattle.std.specs.Bool.{OnTrue, OnFalse}
 use Rattle.off_chip.specs.declared.event.Event.{Event}
 
 -- the events of a trace, newest first
@@ -87,3 +87,20 @@ count test (event ∷ older) = count test older + (if test event then 1 else 0)
 abbrev pub total : (Event → Option ℕ) → List Event → ℕ
 total f [] = 0
 total f (event ∷ older) = total f older + unwrap_or (f event) 0
+
+-- ---- what stands behind the latest event that passes a test
+
+-- the events behind the latest one that passes a test, newest first
+abbrev pub since : (Event → Bool) → List Event → List Event
+since test [] = []
+since test (event ∷ older) = if test event then [] else event ∷ since test older
+
+-- the events before the latest one that passes a test, newest first
+abbrev pub until : (Event → Bool) → List Event → List Event
+until test [] = []
+until test (event ∷ older) = if test event then older else until test older
+
+-- a predicate holds of each event behind the latest one that passes a test, and of what is older than it
+abbrev pub EachSince : (Event → Bool) → (Event → List Event → Type 0) → List Event → Type 0
+EachSince test P [] = ⊤
+EachSince test P (event ∷ older) = OnFalse (test event) (EachSince test P older × P event older)

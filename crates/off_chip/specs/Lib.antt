@@ -15,6 +15,7 @@ pub mod Epochs
 pub mod Words
 pub mod HistoryLaws
 pub mod NewestLaws
+pub mod SplitLaws
 pub mod BoundaryLaws
 pub mod WriteLaws
 pub mod FaithfulLaws
