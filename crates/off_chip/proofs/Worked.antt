@@ -7,6 +7,7 @@ use Rattle.aegis_num.specs.declared.storage.Place.{Place}
 use Rattle.aegis_num.specs.declared.storage.Place.TheVariants.{Tree, Log}
 use Rattle.regions.specs.declared.layout.Layout.{Layout}
 use Rattle.regions.specs.Tree.{height_of}
+use Rattle.execution.specs.Traffic as traffic
 use Rattle.off_chip.specs.declared.event.Event.{Event}
 use Rattle.off_chip.specs.declared.event.Event.TheVariants.{BlockRead, BlockWrite, WordRead, WordWrite, Note}
 use Rattle.off_chip.specs.declared.event.Mark.TheVariants.{Enter, Retire, Drop, CheckStart, CheckPassed, Sent, Suspend, Resume}
@@ -18,7 +19,7 @@ use Rattle.off_chip.specs.Faithful.{First, from_image, from_anything, is_faithfu
 use Rattle.off_chip.specs.Residency.{in_check, is_resident}
 use Rattle.off_chip.specs.Digests.{Digests, expected_digest}
 use Rattle.off_chip.specs.Epochs.{Entry, epochs, reads_of, writes_of, open_reads, open_writes, NoReadAbove, AllSentInQuiet}
-use Rattle.off_chip.specs.Words.{Word, words_read, words_written, pieces_sent, bytes_sent}
+use Rattle.off_chip.specs.Words.{words_read, words_written, pieces_sent, bytes_sent}
 
 abbrev block : ℕ → ℕ → Block
 block byte stamp = record { payload = byte ∷ []; stamp = stamp }
@@ -106,8 +107,8 @@ tree = record { digest = λ n block. n ∷ block.stamp ∷ block.payload; parent
 abbrev entry : ℕ → ℕ → ℕ → Entry
 entry n byte stamp = record { number = n; payload = byte ∷ []; stamp = stamp }
 
-abbrev word_at : ℕ → ℕ → Word
-word_at at word = record { at = at; word = word }
+abbrev word_at : ℕ → ℕ → traffic.Entry ℕ
+word_at at word = record { place = at; word = word }
 
 events : length trace ≡ 33
 events = refl

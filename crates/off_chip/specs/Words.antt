@@ -1,23 +1,19 @@
 -- The words that the secure program exchanged with the outside, and the bytes that it sent.
 use Rattle.std.specs.Prelude.{ℕ, List, Option, Some, None}
+use Rattle.execution.specs.Traffic.{Entry}
 use Rattle.off_chip.specs.declared.event.Event.{Event}
 use Rattle.off_chip.specs.declared.event.Event.TheVariants.{WordRead, WordWrite, Note}
 use Rattle.off_chip.specs.declared.event.Mark.TheVariants.{Sent}
 use Rattle.off_chip.specs.declared.event.Who.TheVariants.{Secure}
 use Rattle.off_chip.specs.History.{told, total}
 
--- a word at an address
-pub record Word : Type 0 where
-  pub at : ℕ
-  pub word : ℕ
-
--- the word that the secure program reads, and the one that it writes
-abbrev pub secure_read : Event → Option Word
-secure_read (WordRead Secure at word) = Some (record { at = at; word = word })
+-- the word that the secure program reads, at its address, and the one that it writes
+abbrev pub secure_read : Event → Option (Entry ℕ)
+secure_read (WordRead Secure at word) = Some (record { place = at; word = word })
 secure_read event = None
 
-abbrev pub secure_write : Event → Option Word
-secure_write (WordWrite Secure at word) = Some (record { at = at; word = word })
+abbrev pub secure_write : Event → Option (Entry ℕ)
+secure_write (WordWrite Secure at word) = Some (record { place = at; word = word })
 secure_write event = None
 
 -- how many bytes a Sent mark counts
@@ -25,12 +21,12 @@ abbrev pub sent : Event → Option ℕ
 sent (Note (Sent n)) = Some n
 sent event = None
 
--- the words that the secure program read, in order, from a history
-abbrev pub words_read : List Event → List Word
+-- the words that the secure program read, in order: each is named by its address
+abbrev pub words_read : List Event → List (Entry ℕ)
 words_read older = told secure_read older
 
 -- the words that it wrote
-abbrev pub words_written : List Event → List Word
+abbrev pub words_written : List Event → List (Entry ℕ)
 words_written older = told secure_write older
 
 -- the lengths of the pieces that were sent
