@@ -1,5 +1,6 @@
 -- Between which events an instruction of the secure program is done.
-use Rattle.std.specs.Prelude.{◌≡◌, ℕ, ◌+◌, ◌≤◌, ◌==◌, nat_le, Bool, true, false, ◌&&◌, ◌||◌, List, [], ◌∷◌, ◌++◌, length}
+use Rattle.std.specs.Prelude.{◌≡◌, ℕ, ◌+◌, ◌≤◌, ◌==◌, nat_le, Bool, true, false, ◌&&◌, ◌||◌, List, [], ◌∷◌, ◌++◌, length, drop, if◌then◌else◌}
+use Rattle.std.specs.List.{slice_split}
 use Rattle.regions.specs.declared.layout.Layout.{Layout}
 use Rattle.regions.specs.Blocks.{data_blocks}
 use Rattle.regions.specs.Tree.{height_of, tree_blocks}
@@ -51,3 +52,12 @@ is_boundary entry (event ∷ older) = (length (event ∷ older) == entry) || is_
 -- and the test that it is at the end of entering or behind it
 abbrev pub is_step : ℕ → List Event → Bool
 is_step entry older = is_boundary entry older && nat_le entry (length older)
+
+-- in order: the steps of a trace behind entering, of so many events, without the marks that end them. The last one is still under way
+abbrev pub steps : ℕ → List Event → List (List Event)
+steps entry trace = slice_split is_retire (drop entry trace)
+
+-- the events of the step that is under way, newest first: those behind the latest boundary
+abbrev pub since_step : ℕ → List Event → List Event
+since_step entry [] = []
+since_step entry (event ∷ older) = if is_step entry (event ∷ older) then [] else event ∷ since_step entry older

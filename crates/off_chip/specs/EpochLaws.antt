@@ -13,13 +13,13 @@ use Rattle.aegis_num.specs.declared.storage.Place.TheVariants.{Log}
 use Rattle.off_chip.specs.declared.event.Event.{Event}
 use Rattle.off_chip.specs.declared.event.Event.TheVariants.{BlockRead, Note}
 use Rattle.off_chip.specs.declared.event.Mark.TheVariants.{CheckStart, CheckPassed}
-use Rattle.off_chip.specs.History.{history, Each, EachCut, EachSince, told, since, until}
+use Rattle.off_chip.specs.History.{history, EachCut, EachSince, told, since, until}
 use Rattle.off_chip.specs.HistoryLaws.{history-cut, history-history, cut-history}
 use Rattle.off_chip.specs.SplitLaws.{split-some, split-append, split-one, split-open, last-part, any-history, nil-push, push-same, told-turn, EachSince-at, EachSince-from}
 use Rattle.off_chip.specs.Faithful.{First, from_image, is_faithful, IsFaithfulRead}
 use Rattle.off_chip.specs.FaithfulLaws.{is_faithful-Decides}
 use Rattle.off_chip.specs.Residency.{in_check}
-use Rattle.off_chip.specs.Epochs.{Entry, log_read, log_written, is_passed, is_check_start, epochs, check_of, reads_of, writes_of, open_reads, check_reads, open_writes, is_log_read, EpochFaithful, OpenReadsFaithful, EndedFaithful}
+use Rattle.off_chip.specs.Epochs.{Entry, log_read, log_written, is_passed, is_check_start, epochs, check_of, reads_of, writes_of, open_reads, check_reads, open_writes, is_log_read, EpochFaithful, OpenReadsFaithful, EndedFaithful, LogFaithful}
 
 -- ---- the epochs of a trace
 
@@ -180,9 +180,6 @@ EpochFaithful-in_order image trace = (
 )
 
 -- each log read is faithful where those of the ended epochs and of the open one are
-abbrev pub LogFaithful : First → List Event → Type 0
-LogFaithful first older = Each (λ event older. OnTrue (is_log_read event) (IsTrue (is_faithful first event older))) older
-
 pub epochs-LogFaithful : (first : First) (older : List Event) → EndedFaithful first older → EpochFaithful first older → LogFaithful first older
 epochs-LogFaithful first [] ended open' = tt
 epochs-LogFaithful first (Note CheckPassed ∷ older) ended open' = (epochs-LogFaithful first older ended.0 ended.1, tt)

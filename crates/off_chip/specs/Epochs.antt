@@ -100,6 +100,10 @@ OpenReadsFaithful image trace =
 abbrev pub EndedFaithful : First → List Event → Type 0
 EndedFaithful first older = Each (λ event older. OnTrue (is_passed event) (EpochFaithful first older)) older
 
+-- each log read is faithful
+abbrev pub LogFaithful : First → List Event → Type 0
+LogFaithful first older = Each (λ event older. OnTrue (is_log_read event) (IsTrue (is_faithful first event older))) older
+
 -- no log read has a stamp above the number of block writes before it
 abbrev pub ReadNotAbove : Event → List Event → Type 0
 ReadNotAbove (BlockRead (Log n) block) older = block.stamp ≤ block_writes older

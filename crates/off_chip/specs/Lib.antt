@@ -22,3 +22,5 @@ pub mod FaithfulLaws
 pub mod ResidencyLaws
 pub mod DigestLaws
 pub mod EpochLaws
+pub mod StepLaws
+pub mod WordLaws
