@@ -24,3 +24,5 @@ pub mod DigestLaws
 pub mod EpochLaws
 pub mod StepLaws
 pub mod WordLaws
+pub mod OneMoreLaws
+pub mod InOrder

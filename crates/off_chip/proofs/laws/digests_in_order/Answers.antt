@@ -1,0 +1,5 @@
+use Rattle.off_chip.specs.DigestLaws.{expected_digest-in_order}
+use Rattle.off_chip.proofs.laws.digests_in_order.Goals as goal
+
+pub returns : goal.returns
+returns c = record { same = record { expected = expected_digest-in_order } }

@@ -1,0 +1,14 @@
+use Rattle.off_chip.specs.EpochLaws.{epochs-cut, open_reads-in_order, open_writes-first, open_writes-later, EpochFaithful-in_order, epochs-LogFaithful, LogFaithful-ended, LogFaithful-epoch}
+use Rattle.off_chip.proofs.laws.epochs_in_order.Goals as goal
+
+pub returns : goal.returns
+returns c = record {
+  same = record {
+    cut = epochs-cut;
+    reads = open_reads-in_order;
+    first_writes = open_writes-first;
+    later_writes = open_writes-later;
+    faithful = EpochFaithful-in_order;
+    all = λ first older. (λ all. (LogFaithful-ended first older all, LogFaithful-epoch first older all), λ both. epochs-LogFaithful first older both.0 both.1);
+  };
+}

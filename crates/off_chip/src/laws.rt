@@ -1,0 +1,43 @@
+//! Laws of what is said of a trace. Proofs go back over the events, newest first; a reader goes over the trace in order. Each
+//! definition has both forms, and these functions do nothing but state that the two agree, and what one more event changes.
+ghost use Rattle.off_chip.specs.InOrder.{BoundariesInOrder, DigestsInOrder, EpochsInOrder, FaithfulInOrder, OneEventMore, ResidencyInOrder, WordsInOrder, WritesInOrder};
+
+/// The boundaries of a trace, the instructions done, and the steps between boundaries.
+pub fn boundaries_in_order()
+    ensures same { BoundariesInOrder }
+{}
+
+/// The last write-back of a place, and stamps that count the block writes from 1.
+pub fn writes_in_order()
+    ensures same { WritesInOrder }
+{}
+
+/// Faithful block reads, and the longest first part of a trace in which all are faithful.
+pub fn faithful_in_order()
+    ensures same { FaithfulInOrder }
+{}
+
+/// The blocks that the processor holds.
+pub fn residency_in_order()
+    ensures same { ResidencyInOrder }
+{}
+
+/// The digest that a block of the tree must have.
+pub fn digests_in_order()
+    ensures same { DigestsInOrder }
+{}
+
+/// The reads and the writes of the log, from one passed check to the next.
+pub fn epochs_in_order()
+    ensures same { EpochsInOrder }
+{}
+
+/// The words that the secure program read and wrote, and the bytes that it sent.
+pub fn words_in_order()
+    ensures same { WordsInOrder }
+{}
+
+/// What one more event changes.
+pub fn one_event_more()
+    ensures changes { OneEventMore }
+{}
