@@ -1,5 +1,5 @@
 -- One trace that has every case, and what each definition says of it. The answers were worked out by hand from the rules.
-use Rattle.std.proofs.Common.{◌≡◌, ℕ, ◌-◌, ◌/◌, ◌≤◌, zero, suc, Bool, true, false, List, [], ◌∷◌, ◌++◌, length, take, drop, eqb, Option, Some, None, refl, lit≤, arith, rules}
+use Rattle.std.proofs.Common.{◌≡◌, ℕ, ◌-◌, ◌/◌, ◌≤◌, zero, suc, Bool, true, false, List, [], ◌∷◌, ◌++◌, length, take, drop, replicate, eqb, Option, Some, None, refl, lit≤, arith, rules}
 use Rattle.std.specs.Prelude.{if◌then◌else◌}
 use Rattle.std.specs.List.{filter}
 use Rattle.aegis_num.specs.declared.storage.Block.{Block}
@@ -13,9 +13,10 @@ use Rattle.off_chip.specs.declared.event.Event.TheVariants.{BlockRead, BlockWrit
 use Rattle.off_chip.specs.declared.event.Mark.TheVariants.{Enter, Retire, Drop, CheckStart, CheckPassed, Sent, Suspend, Resume}
 use Rattle.off_chip.specs.declared.event.Who.TheVariants.{Secure, Untrusted}
 use Rattle.off_chip.specs.History.{history}
-use Rattle.off_chip.specs.Boundaries.{enter_events, is_boundary, is_step, retired, suspensions}
+use Rattle.off_chip.specs.Boundaries.{enter_events, is_boundary, is_step, retired, suspensions, steps, since_step}
 use Rattle.off_chip.specs.Writes.{block_writes, last_write, StampsFit}
 use Rattle.off_chip.specs.Faithful.{First, from_image, from_anything, is_faithful, faithful_part}
+use Rattle.off_chip.specs.Statics.{static_at}
 use Rattle.off_chip.specs.Residency.{in_check, is_resident}
 use Rattle.off_chip.specs.Digests.{Digests, expected_digest}
 use Rattle.off_chip.specs.Epochs.{Entry, epochs, reads_of, writes_of, open_reads, open_writes, NoReadAbove, AllSentInQuiet}
@@ -116,8 +117,8 @@ events = refl
 boundaries : points (is_boundary 6) ≡ 0 ∷ 6 ∷ 11 ∷ 20 ∷ 33 ∷ []
 boundaries = refl
 
-steps : points (is_step 6) ≡ 6 ∷ 11 ∷ 20 ∷ 33 ∷ []
-steps = refl
+step-boundaries : points (is_step 6) ≡ 6 ∷ 11 ∷ 20 ∷ 33 ∷ []
+step-boundaries = refl
 
 retired-counts : (retired (at 6) ≡ 0) × (retired (at 10) ≡ 0) × (retired (at 11) ≡ 1) × (retired (at 20) ≡ 2) × (retired trace ≡ 3)
 retired-counts = (refl, refl, refl, refl, refl)
@@ -252,3 +253,22 @@ words = (refl, refl)
 
 pieces : (pieces_sent (at 33) ≡ 3 ∷ 1 ∷ []) × (bytes_sent (at 33) ≡ 4) × (bytes_sent (at 26) ≡ 3)
 pieces = (refl, refl, refl)
+
+-- the steps without the marks that end them; the last one has not begun
+steps-four : steps 6 trace ≡ take 4 (drop 6 trace) ∷ take 8 (drop 11 trace) ∷ take 12 (drop 20 trace) ∷ [] ∷ []
+steps-four = refl
+
+since-steps : (since_step 6 (at 6) ≡ []) × (since_step 6 (at 9) ≡ history (take 3 (drop 6 trace))) × (since_step 6 (at 11) ≡ []) × (since_step 6 (at 22) ≡ history (take 2 (drop 20 trace)))
+since-steps = (refl, refl, refl, refl)
+
+-- with ten data blocks the seven static ones are those from number 16 to number 22 of the tree
+abbrev statics : List ℕ
+statics = replicate 64 5 ++ replicate 64 6
+
+static-ends : (static_at layout statics (Tree 15) ≡ None) × (static_at layout statics (Tree 23) ≡ None) × (static_at layout statics (Log 16) ≡ None)
+unfolding height_of
+static-ends = (refl, refl, refl)
+
+static-blocks : (static_at layout statics (Tree 16) ≡ Some (replicate 64 5)) × (static_at layout statics (Tree 17) ≡ Some (replicate 64 6)) × (static_at layout statics (Tree 22) ≡ Some [])
+unfolding height_of
+static-blocks = (refl, refl, refl)

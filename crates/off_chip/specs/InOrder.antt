@@ -4,6 +4,7 @@ use Rattle.std.specs.Bool.{Decides}
 use Rattle.std.specs.List.{slice_split}
 use Rattle.aegis_num.specs.declared.storage.Block.{Block}
 use Rattle.aegis_num.specs.declared.storage.Place.{Place}
+use Rattle.regions.specs.declared.layout.Layout.{Layout}
 use Rattle.off_chip.specs.declared.event.Event.{Event}
 use Rattle.off_chip.specs.declared.event.Event.TheVariants.{BlockRead, BlockWrite, Note}
 use Rattle.off_chip.specs.declared.event.Mark.TheVariants.{Retire, CheckPassed}
@@ -12,6 +13,7 @@ use Rattle.off_chip.specs.History.{history, or_else}
 use Rattle.off_chip.specs.Boundaries.{is_retire, retired, is_suspend, suspensions, IsBoundary, IsStep, is_boundary, is_step, steps, since_step}
 use Rattle.off_chip.specs.Writes.{written_at, last_write, IsLastWrite, is_block_write, StampsFit, StampsNumbered}
 use Rattle.off_chip.specs.Faithful.{First, from_image, from_anything, is_faithful, AllFaithful, SomeUnfaithful, IsFaithfulRead, AllReadsFaithful, faithful_part, IsFaithfulPart}
+use Rattle.off_chip.specs.Statics.{static_at, IsStatic}
 use Rattle.off_chip.specs.Residency.{in_check, concerning, is_resident, InCheck, IsResident}
 use Rattle.off_chip.specs.Digests.{Digests, digest_told, expected_digest, IsExpectedDigest}
 use Rattle.off_chip.specs.Epochs.{log_read, log_written, is_passed, epochs, reads_of, writes_of, open_reads, check_reads, open_writes, EpochFaithful, OpenReadsFaithful, EndedFaithful, LogFaithful}
@@ -52,6 +54,10 @@ pub record FaithfulInOrder : Type 0 where
   pub apart : (first : First) (older : List Event) → AllFaithful first older → SomeUnfaithful first older → ⊥
   -- what is faithful for an image is so where none is known
   pub weaker : (first : First) (older : List Event) → AllFaithful first older → AllFaithful from_anything older
+
+-- the static blocks of an image
+pub record StaticsInPlace : Type 0 where
+  pub at : (layout : Layout) (statics : List ℕ) (place : Place) (payload : List ℕ) → (static_at layout statics place ≡ Some payload) ↔ IsStatic layout statics place payload
 
 -- resident places
 pub record ResidencyInOrder : Type 0 where

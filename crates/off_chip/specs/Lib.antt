@@ -24,5 +24,7 @@ pub mod DigestLaws
 pub mod EpochLaws
 pub mod StepLaws
 pub mod WordLaws
+pub mod Statics
+pub mod StaticLaws
 pub mod OneMoreLaws
 pub mod InOrder

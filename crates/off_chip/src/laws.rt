@@ -1,6 +1,6 @@
 //! Laws of what is said of a trace. Proofs go back over the events, newest first; a reader goes over the trace in order. Each
 //! definition has both forms, and these functions do nothing but state that the two agree, and what one more event changes.
-ghost use Rattle.off_chip.specs.InOrder.{BoundariesInOrder, DigestsInOrder, EpochsInOrder, FaithfulInOrder, OneEventMore, ResidencyInOrder, WordsInOrder, WritesInOrder};
+ghost use Rattle.off_chip.specs.InOrder.{BoundariesInOrder, DigestsInOrder, EpochsInOrder, FaithfulInOrder, OneEventMore, ResidencyInOrder, StaticsInPlace, WordsInOrder, WritesInOrder};
 
 /// The boundaries of a trace, the instructions done, and the steps between boundaries.
 pub fn boundaries_in_order()
@@ -15,6 +15,11 @@ pub fn writes_in_order()
 /// Faithful block reads, and the longest first part of a trace in which all are faithful.
 pub fn faithful_in_order()
     ensures same { FaithfulInOrder }
+{}
+
+/// The constant blocks and the code blocks of an image, at their places.
+pub fn statics_in_place()
+    ensures same { StaticsInPlace }
 {}
 
 /// The blocks that the processor holds.

@@ -1,0 +1,5 @@
+use Rattle.off_chip.specs.StaticLaws.{static_at-is}
+use Rattle.off_chip.proofs.laws.statics_in_place.Goals as goal
+
+pub returns : goal.returns
+returns c = record { same = record { at = static_at-is } }
