@@ -1,5 +1,5 @@
 -- One trace that has every case, and what each definition says of it. The answers were worked out by hand from the rules.
-use Rattle.std.proofs.Common.{◌≡◌, ℕ, ◌-◌, ◌/◌, ◌≤◌, zero, suc, Bool, true, false, List, [], ◌∷◌, ◌++◌, length, take, drop, replicate, eqb, Option, Some, None, refl, lit≤, arith, rules}
+use Rattle.std.proofs.Common.{◌≡◌, ◌<◌, ℕ, ◌-◌, ◌/◌, ◌≤◌, zero, suc, Bool, true, false, List, [], ◌∷◌, ◌++◌, length, take, drop, replicate, eqb, Option, Some, None, refl, lit≤, arith, rules}
 use Rattle.std.specs.Prelude.{if◌then◌else◌}
 use Rattle.std.specs.List.{filter}
 use Rattle.aegis_num.specs.declared.storage.Block.{Block}
@@ -16,6 +16,7 @@ use Rattle.off_chip.specs.History.{history}
 use Rattle.off_chip.specs.Boundaries.{enter_events, is_boundary, is_step, retired, suspensions, steps, since_step}
 use Rattle.off_chip.specs.Writes.{block_writes, last_write, StampsFit}
 use Rattle.off_chip.specs.Faithful.{First, from_image, from_anything, is_faithful, faithful_part}
+use Rattle.off_chip.specs.Places.{AllInside}
 use Rattle.off_chip.specs.Statics.{static_at}
 use Rattle.off_chip.specs.Residency.{in_check, is_resident}
 use Rattle.off_chip.specs.Digests.{Digests, expected_digest}
@@ -272,3 +273,11 @@ static-ends = (refl, refl, refl)
 static-blocks : (static_at layout statics (Tree 16) ≡ Some (replicate 64 5)) × (static_at layout statics (Tree 17) ≡ Some (replicate 64 6)) × (static_at layout statics (Tree 22) ≡ Some [])
 unfolding height_of
 static-blocks = (refl, refl, refl)
+
+inside : AllInside layout (at 33)
+unfolding height_of
+inside = search arith
+
+outside : (AllInside layout (Note (Drop (Tree 40)) ∷ at 33) → ⊥) × (AllInside layout (BlockWrite (Log 5) (block 0 9) ∷ at 33) → ⊥)
+unfolding height_of
+outside = (λ all. let lt : 40 < 40 = all.1 in omega arith, λ all. let lt : 5 < 5 = all.1 in omega arith)

@@ -1,6 +1,6 @@
 -- What follows of the words on histories: one more event, histories that are joined, and the same said of the trace in order.
 use Rattle.std.proofs.Common.{◌≡◌, ℕ, zero, suc, List, [], ◌∷◌, ◌++◌, length, take, drop, Some, refl, sym, ap, ◌∙◌, subst, inl, inr, ◌⊎◌}
-use Rattle.std.specs.Prelude.{slice_get}
+use Rattle.std.specs.Prelude.{◌↔◌, slice_get}
 use Rattle.std.proofs.lemmas.List.{append_assoc, reverse-append, reverse-reverse, length-reverse, take_at}
 use Rattle.std.proofs.lemmas.Grind.{reverse_onto}
 use Rattle.off_chip.specs.declared.event.Event.{Event}
@@ -51,6 +51,14 @@ Each-from P (event ∷ older) holds =
 pub Each-older : (P : Event → List Event → Type 0) (newer older : List Event) → Each P (newer ++ older) → Each P older
 Each-older P [] older each = each
 Each-older P (event ∷ newer) older each = Each-older P newer older each.0
+
+-- joined histories: it holds at each event of both
+pub Each-append : (P : Event → List Event → Type 0) (newer older : List Event) → Each P (newer ++ older)
+    ↔ (Each P older × Each (λ event before. P event (before ++ older)) newer)
+Each-append P [] older = (λ each. (each, tt), λ both. both.0)
+Each-append P (event ∷ newer) older =
+    let ih = Each-append P newer older in
+    (λ each. ((ih.0 each.0).0, ((ih.0 each.0).1, each.1)), λ both. (ih.1 (both.0, both.1.0), both.1.1))
 
 -- what is weaker holds too
 pub Each-weaker : (P Q : Event → List Event → Type 0) → ((event : Event) (older : List Event) → P event older → Q event older)

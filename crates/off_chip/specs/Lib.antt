@@ -24,6 +24,7 @@ pub mod DigestLaws
 pub mod EpochLaws
 pub mod StepLaws
 pub mod WordLaws
+pub mod Places
 pub mod Statics
 pub mod StaticLaws
 pub mod OneMoreLaws

@@ -5,7 +5,7 @@ use Rattle.std.proofs.lemmas.List.{append-nil, append_assoc}
 use Rattle.aegis_num.specs.declared.storage.Place.{Place}
 use Rattle.off_chip.specs.declared.event.Event.{Event}
 use Rattle.off_chip.specs.History.{or_else, newest, told, since, until}
-use Rattle.off_chip.specs.Residency.{concerning, is_resident}
+use Rattle.off_chip.specs.Residency.{check_told, in_check, concerning, is_resident}
 use Rattle.off_chip.specs.Epochs.{log_read, log_written, is_passed, open_reads, check_reads, open_writes}
 
 unwrap_or-or_else : {X : Type 0} (first second : Option X) (x : X) → unwrap_or (or_else first second) x ≡ unwrap_or first (unwrap_or second x)
@@ -15,6 +15,9 @@ unwrap_or-or_else (Some y) second x = refl
 pub is_resident-more : (place : Place) (event : Event) (older : List Event)
     → is_resident place (event ∷ older) ≡ unwrap_or (concerning place event older) (is_resident place older)
 is_resident-more place event older = unwrap_or-or_else (concerning place event older) (newest (concerning place) older) false
+
+pub in_check-more : (event : Event) (older : List Event) → in_check (event ∷ older) ≡ unwrap_or (check_told event) (in_check older)
+in_check-more event older = unwrap_or-or_else (check_told event) (newest (λ event _. check_told event) older) false
 
 told-cond : {X : Type 0} (f : Event → Option X) (b : Bool) (event : Event) (newer : List Event)
     → told f (cond b [] (event ∷ newer)) ≡ cond b [] (told f newer ++ option_to_list (f event))

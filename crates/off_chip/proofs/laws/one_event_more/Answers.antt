@@ -1,7 +1,7 @@
 use Rattle.std.proofs.Common.{refl}
 use Rattle.off_chip.specs.HistoryLaws.{history-push}
 use Rattle.off_chip.specs.WriteLaws.{StampsFit-write, StampsFit-other}
-use Rattle.off_chip.specs.OneMoreLaws.{is_resident-more, open_reads-more, open_writes-more}
+use Rattle.off_chip.specs.OneMoreLaws.{in_check-more, is_resident-more, open_reads-more, open_writes-more}
 use Rattle.off_chip.proofs.laws.one_event_more.Goals as goal
 
 pub returns : goal.returns
@@ -14,6 +14,7 @@ returns c = record {
     stamps_write = StampsFit-write;
     stamps_other = StampsFit-other;
     faithful = λ first event older. (λ all. all, λ all. all);
+    check = in_check-more;
     resident = is_resident-more;
     expected = λ tree n event older. refl;
     reads = open_reads-more;
