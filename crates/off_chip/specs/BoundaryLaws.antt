@@ -1,5 +1,5 @@
 -- What follows of boundaries, and that they are the same of a trace in order.
-use Rattle.std.proofs.Common.{◌≡◌, ℕ, ◌≤◌, true, eqb, leb, List, [], ◌∷◌, ◌++◌, length, refl, ap, ◌∙◌, subst, inl, inr, arith}
+use Rattle.std.proofs.Common.{sym, ◌≡◌, ℕ, ◌≤◌, true, eqb, leb, List, [], ◌∷◌, ◌++◌, length, refl, ap, ◌∙◌, subst, inl, inr, arith}
 use Rattle.std.specs.Prelude.{IsTrue}
 use Rattle.std.specs.Bool.{Decides}
 use Rattle.std.proofs.lemmas.Bool.{or_cases, or_left, or_right, and_parts, and_from, eqb-true, eq-eqb, leb-true, le-leb}
@@ -9,7 +9,7 @@ use Rattle.off_chip.specs.declared.event.Mark.TheVariants.{Retire}
 use Rattle.off_chip.specs.declared.event.Who.TheVariants.{Secure}
 use Rattle.off_chip.specs.History.{history, AtEach, AtEachCut}
 use Rattle.off_chip.specs.HistoryLaws.{history-push, history-cut, history-history, length-history}
-use Rattle.off_chip.specs.NewestLaws.{count-history, AtEach-AtEachCut}
+use Rattle.off_chip.specs.NewestLaws.{count-history, AtEach-AtEachCut, AtEachCut-AtEach}
 use Rattle.off_chip.specs.Boundaries.{is_retire, retired, is_suspend, suspensions, IsBoundary, start, entered, retirement, IsStep, is_boundary, is_step}
 
 pub is_retire-event : (event : Event) → is_retire event ≡ true → event ≡ Note (Retire Secure)
@@ -63,6 +63,20 @@ pub AtEach-step : (entry : ℕ) (P Q : List Event → Type 0) → ((before : Lis
     → (trace : List Event) → AtEach (is_step entry) P (history trace) → AtEachCut (IsStep entry) Q trace
 AtEach-step entry P Q turn trace each =
     AtEach-AtEachCut (is_step entry) (IsStep entry) P Q (λ before at. (is_step-Decides entry before).1 at) turn trace each
+
+pub boundary-AtEach : (entry : ℕ) (P Q : List Event → Type 0) → ((older : List Event) → Q (history older) → P older)
+    → (trace : List Event) → AtEachCut (IsBoundary entry) Q trace → AtEach (is_boundary entry) P (history trace)
+boundary-AtEach entry P Q turn trace cut =
+    AtEachCut-AtEach (is_boundary entry) (IsBoundary entry) P Q (λ older passes. boundary-of entry older passes) turn trace cut
+
+step-of : (entry : ℕ) (older : List Event) → IsTrue (is_step entry older) → IsStep entry (history older)
+step-of entry older passes =
+    (is_step-Decides entry (history older)).0 (subst (λ (h : List Event). IsTrue (is_step entry h)) (sym (history-history older)) passes)
+
+pub step-AtEach : (entry : ℕ) (P Q : List Event → Type 0) → ((older : List Event) → Q (history older) → P older)
+    → (trace : List Event) → AtEachCut (IsStep entry) Q trace → AtEach (is_step entry) P (history trace)
+step-AtEach entry P Q turn trace cut =
+    AtEachCut-AtEach (is_step entry) (IsStep entry) P Q (λ older passes. step-of entry older passes) turn trace cut
 
 -- ---- counts
 

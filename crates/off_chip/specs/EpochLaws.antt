@@ -1,5 +1,5 @@
 -- What follows of the epochs of the log.
-use Rattle.std.proofs.Common.{◌≡◌, ℕ, Bool, true, false, cond, ◌||◌, List, [], ◌∷◌, ◌++◌, Option, Some, None, refl, sym, ap, ◌∙◌, subst, inl, inr}
+use Rattle.std.proofs.Common.{arith, ◌≤◌, ◌≡◌, ℕ, Bool, true, false, cond, ◌||◌, List, [], ◌∷◌, ◌++◌, Option, Some, None, refl, sym, ap, ◌∙◌, subst, inl, inr}
 use Rattle.std.specs.Prelude.{IsTrue, ◌↔◌, filter_map, option_to_list}
 use Rattle.std.specs.Bool.{OnTrue}
 use Rattle.std.specs.List.{list_any, cons_option}
@@ -12,14 +12,16 @@ use Rattle.aegis_num.specs.declared.storage.Place.{Place}
 use Rattle.aegis_num.specs.declared.storage.Place.TheVariants.{Log}
 use Rattle.off_chip.specs.declared.event.Event.{Event}
 use Rattle.off_chip.specs.declared.event.Event.TheVariants.{BlockRead, Note}
-use Rattle.off_chip.specs.declared.event.Mark.TheVariants.{CheckStart, CheckPassed}
+use Rattle.off_chip.specs.declared.event.Mark.TheVariants.{Sent, CheckStart, CheckPassed}
 use Rattle.off_chip.specs.History.{history, EachCut, EachSince, told, since, until}
-use Rattle.off_chip.specs.HistoryLaws.{history-cut, history-history, cut-history}
+use Rattle.off_chip.specs.HistoryLaws.{Each-EachCut, EachCut-Each, history-cut, history-history, cut-history}
+use Rattle.off_chip.specs.NewestLaws.{count-history}
+use Rattle.off_chip.specs.Writes.{is_block_write, block_writes}
 use Rattle.off_chip.specs.SplitLaws.{split-some, split-append, split-one, split-open, last-part, any-history, nil-push, push-same, told-turn, EachSince-at, EachSince-from}
 use Rattle.off_chip.specs.Faithful.{First, from_image, is_faithful, IsFaithfulRead}
 use Rattle.off_chip.specs.FaithfulLaws.{is_faithful-Decides}
 use Rattle.off_chip.specs.Residency.{in_check}
-use Rattle.off_chip.specs.Epochs.{Entry, log_read, log_written, is_passed, is_check_start, epochs, check_of, reads_of, writes_of, open_reads, check_reads, open_writes, is_log_read, EpochFaithful, OpenReadsFaithful, EndedFaithful, LogFaithful}
+use Rattle.off_chip.specs.Epochs.{Entry, log_read, log_written, is_passed, is_check_start, epochs, check_of, reads_of, writes_of, open_reads, check_reads, open_writes, is_log_read, EpochFaithful, OpenReadsFaithful, EndedFaithful, LogFaithful, IsQuiet, ReadNotAbove, NoReadAbove, ReadsNotAbove, SentInQuiet, AllSentInQuiet, SentBehindQuiet}
 
 -- ---- the epochs of a trace
 
@@ -194,3 +196,43 @@ pub LogFaithful-ended : (first : First) (older : List Event) → LogFaithful fir
 LogFaithful-ended first [] all = tt
 LogFaithful-ended first (event ∷ older) all =
     (LogFaithful-ended first older all.0, OnTrue_from (is_passed event) (EpochFaithful first older) (λ passed. LogFaithful-epoch first older all.0))
+
+-- ---- quiet epochs, and reads that are not above the counter
+
+pub IsQuiet-in_order : (trace : List Event) (earlier : List (List Event)) (epoch : List Event) → epochs trace ≡ earlier ++ epoch ∷ []
+    → IsQuiet (history trace) ↔ (reads_of epoch ≡ [])
+IsQuiet-in_order trace earlier epoch same =
+    let e : open_reads (history trace) ≡ reads_of epoch = open_reads-in_order trace earlier epoch same in (λ quiet. sym e ∙ quiet, λ nothing. e ∙ nothing)
+
+not_above-cut : (trace : List Event) → ReadsNotAbove trace → EachCut (λ event before. ReadNotAbove event (history before)) trace
+not_above-cut trace all before (BlockRead (Log n) block) rest same = omega (arith, all before n block rest same, count-history is_block_write before)
+not_above-cut trace all before event rest same = tt
+
+pub NoReadAbove-in_order : (trace : List Event) → NoReadAbove (history trace) ↔ ReadsNotAbove trace
+NoReadAbove-in_order trace = (
+  λ all before n block rest same.
+      let le : block.stamp ≤ block_writes (history before) =
+      Each-EachCut ReadNotAbove (λ event before. ReadNotAbove event (history before)) (λ event before holds. holds) trace all before (BlockRead (Log n) block) rest same in
+      omega (arith, le, count-history is_block_write before),
+  λ all. EachCut-Each ReadNotAbove (λ event before. ReadNotAbove event (history before))
+      (λ event older holds. subst (λ (h : List Event). ReadNotAbove event h) (history-history older) holds) trace (not_above-cut trace all),
+)
+
+-- there is a last epoch
+last-of : (trace : List Event) → (earlier : List (List Event)) × (epochs trace ≡ earlier ++ open_epoch (history trace) ∷ [])
+last-of trace = elim (split-open is_passed trace) [ inl one ↦ ([], one.0) | inr more ↦ (epochs (history (until is_passed (history trace))), more) ]
+
+sent-cut : (trace : List Event) → SentBehindQuiet trace → EachCut (λ event before. SentInQuiet event (history before)) trace
+sent-cut trace all before (Note (Sent n)) rest same =
+    let last = last-of before in
+    (IsQuiet-in_order before last.0 (open_epoch (history before)) last.1).1 (all before n rest same last.0 (open_epoch (history before)) last.1)
+sent-cut trace all before event rest same = tt
+
+pub AllSentInQuiet-in_order : (trace : List Event) → AllSentInQuiet (history trace) ↔ SentBehindQuiet trace
+AllSentInQuiet-in_order trace = (
+  λ all before n rest same earlier epoch parts.
+      (IsQuiet-in_order before earlier epoch parts).0
+      (Each-EachCut SentInQuiet (λ event before. SentInQuiet event (history before)) (λ event before holds. holds) trace all before (Note (Sent n)) rest same),
+  λ all. EachCut-Each SentInQuiet (λ event before. SentInQuiet event (history before))
+      (λ event older holds. subst (λ (h : List Event). SentInQuiet event h) (history-history older) holds) trace (sent-cut trace all),
+)

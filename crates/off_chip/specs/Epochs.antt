@@ -112,6 +112,11 @@ ReadNotAbove event older = ⊤
 abbrev pub NoReadAbove : List Event → Type 0
 NoReadAbove older = Each ReadNotAbove older
 
+-- in order
+abbrev pub ReadsNotAbove : List Event → Type 0
+ReadsNotAbove trace =
+    (before : List Event) (n : ℕ) (block : Block) (rest : List Event) → trace ≡ before ++ BlockRead (Log n) block ∷ rest → block.stamp ≤ block_writes before
+
 -- bytes are sent in quiet epochs only
 abbrev pub SentInQuiet : Event → List Event → Type 0
 SentInQuiet (Note (Sent n)) older = IsQuiet older
@@ -119,3 +124,9 @@ SentInQuiet event older = ⊤
 
 abbrev pub AllSentInQuiet : List Event → Type 0
 AllSentInQuiet older = Each SentInQuiet older
+
+-- in order: before each Sent mark the open epoch has no read
+abbrev pub SentBehindQuiet : List Event → Type 0
+SentBehindQuiet trace =
+    (before : List Event) (n : ℕ) (rest : List Event) → trace ≡ before ++ Note (Sent n) ∷ rest
+    → (earlier : List (List Event)) (epoch : List Event) → epochs before ≡ earlier ++ epoch ∷ [] → reads_of epoch ≡ []

@@ -1,5 +1,5 @@
 -- Which block reads gave what had been written, and how far all did.
-use Rattle.std.specs.Prelude.{◌≡◌, ℕ, ◌≤◌, ◌==◌, Bool, true, false, ◌&&◌, List, [], ◌∷◌, ◌++◌, length, filter_map, Option, Some, None, IsTrue, if◌then◌else◌}
+use Rattle.std.specs.Prelude.{◌≡◌, ℕ, ◌≤◌, ◌==◌, Bool, true, false, ◌&&◌, List, [], ◌∷◌, ◌++◌, length, slice_get, take, filter_map, Option, Some, None, IsTrue, if◌then◌else◌}
 use Rattle.std.specs.Bool.{IsFalse}
 use Rattle.std.specs.Str.{bytes_eq}
 use Rattle.aegis_num.specs.declared.storage.Block.{Block}
@@ -59,6 +59,11 @@ pub data IsFaithfulRead (image : Place → Option (List ℕ)) (before : List Eve
 abbrev pub AllReadsFaithful : (Place → Option (List ℕ)) → List Event → Type 0
 AllReadsFaithful image trace =
     (before : List Event) (place : Place) (block : Block) (rest : List Event) → trace ≡ before ++ BlockRead place block ∷ rest → IsFaithfulRead image before place block
+
+-- in order, by the numbers of the events
+abbrev pub AllReadsNumbered : (Place → Option (List ℕ)) → List Event → Type 0
+AllReadsNumbered image trace =
+    (number : ℕ) (place : Place) (block : Block) → slice_get trace number ≡ Some (BlockRead place block) → IsFaithfulRead image (take number trace) place block
 
 -- of the events that follow on these, which are newest first, those before the first unfaithful block read
 abbrev pub faithful_from : First → List Event → List Event → List Event

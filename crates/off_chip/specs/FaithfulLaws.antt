@@ -11,10 +11,10 @@ use Rattle.aegis_num.specs.declared.storage.Place.{Place}
 use Rattle.off_chip.specs.declared.event.Event.{Event}
 use Rattle.off_chip.specs.declared.event.Event.TheVariants.{BlockRead}
 use Rattle.off_chip.specs.History.{history, EachCut}
-use Rattle.off_chip.specs.HistoryLaws.{history-append, history-cut, history-history, Each-EachCut, EachCut-Each, Each-older, Each-weaker, Each-or-Somewhere, Each-Somewhere}
+use Rattle.off_chip.specs.HistoryLaws.{EachCut-EachNumber, EachNumber-EachCut, history-append, history-cut, history-history, Each-EachCut, EachCut-Each, Each-older, Each-weaker, Each-or-Somewhere, Each-Somewhere}
 use Rattle.off_chip.specs.Writes.{last_write}
 use Rattle.off_chip.specs.WriteLaws.{last_write-in_order, last_write-never}
-use Rattle.off_chip.specs.Faithful.{First, is_payload, from_image, from_anything, same_block, is_expected, is_faithful, AllFaithful, SomeUnfaithful, IsFaithfulRead, as_written, as_loaded, AllReadsFaithful, faithful_from, faithful_part, IsFaithfulPart}
+use Rattle.off_chip.specs.Faithful.{First, is_payload, from_image, from_anything, same_block, is_expected, is_faithful, AllFaithful, SomeUnfaithful, IsFaithfulRead, as_written, as_loaded, AllReadsFaithful, AllReadsNumbered, faithful_from, faithful_part, IsFaithfulPart}
 
 pub same_block-Decides : (block other : Block) → Decides (same_block block other) (block ≡ other)
 same_block-Decides block other = (
@@ -83,6 +83,20 @@ AllFaithful-in_order image trace = (
   λ all. EachCut-Each (λ event older. IsTrue (is_faithful (from_image image) event older)) (λ event before. IsTrue (is_faithful (from_image image) event (history before)))
       (λ event older faithful. subst (λ (h : List Event). IsTrue (is_faithful (from_image image) event h)) (history-history older) faithful)
       trace (faithful-cut image trace all),
+)
+
+-- by number
+abbrev ReadFaithful : (Place → Option (List ℕ)) → Event → List Event → Type 0
+ReadFaithful image event before = (place : Place) (block : Block) → event ≡ BlockRead place block → IsFaithfulRead image before place block
+
+pub AllReadsFaithful-numbered : (image : Place → Option (List ℕ)) (trace : List Event) → AllReadsFaithful image trace ↔ AllReadsNumbered image trace
+AllReadsFaithful-numbered image trace = (
+  λ all number place block found. EachCut-EachNumber (ReadFaithful image) trace
+      (λ before event rest same place block read. all before place block rest (same ∙ ap (λ (e : Event). before ++ e ∷ rest) read))
+      number (BlockRead place block) found place block refl,
+  λ all before place block rest same. EachNumber-EachCut (ReadFaithful image) trace
+      (λ number event found place block read. all number place block (found ∙ ap (λ (e : Event). Some e) read))
+      before (BlockRead place block) rest same place block refl,
 )
 
 -- ---- what is faithful for an image is so where no image is known
