@@ -1,5 +1,5 @@
 -- One trace that has every case, and what each definition says of it. The answers were worked out by hand from the rules.
-use Rattle.std.proofs.Common.{◌≡◌, ◌<◌, ℕ, ◌-◌, ◌/◌, ◌≤◌, zero, suc, Bool, true, false, List, [], ◌∷◌, ◌++◌, length, take, drop, replicate, eqb, Option, Some, None, refl, lit≤, arith, rules}
+use Rattle.std.proofs.Common.{inl, inr, ◌≡◌, ◌<◌, ℕ, ◌-◌, ◌/◌, ◌≤◌, zero, suc, Bool, true, false, List, [], ◌∷◌, ◌++◌, length, take, drop, replicate, eqb, Option, Some, None, refl, lit≤, arith, rules}
 use Rattle.std.specs.Prelude.{if◌then◌else◌}
 use Rattle.std.specs.List.{filter}
 use Rattle.aegis_num.specs.declared.storage.Block.{Block}
@@ -12,15 +12,15 @@ use Rattle.off_chip.specs.declared.event.Event.{Event}
 use Rattle.off_chip.specs.declared.event.Event.TheVariants.{BlockRead, BlockWrite, WordRead, WordWrite, Note}
 use Rattle.off_chip.specs.declared.event.Mark.TheVariants.{Enter, Retire, Drop, CheckStart, CheckPassed, Sent, Suspend, Resume}
 use Rattle.off_chip.specs.declared.event.Who.TheVariants.{Secure, Untrusted}
-use Rattle.off_chip.specs.History.{history}
+use Rattle.off_chip.specs.History.{history, AtEach}
 use Rattle.off_chip.specs.Boundaries.{enter_events, is_boundary, is_step, retired, suspensions, steps, since_step}
 use Rattle.off_chip.specs.Writes.{block_writes, last_write, StampsFit}
-use Rattle.off_chip.specs.Faithful.{First, from_image, from_anything, is_faithful, faithful_part}
+use Rattle.off_chip.specs.Faithful.{First, AllFaithful, SomeUnfaithful, from_image, from_anything, is_faithful, faithful_part}
 use Rattle.off_chip.specs.Places.{AllInside}
 use Rattle.off_chip.specs.Statics.{static_at}
 use Rattle.off_chip.specs.Residency.{in_check, is_resident}
 use Rattle.off_chip.specs.Digests.{Digests, expected_digest}
-use Rattle.off_chip.specs.Epochs.{Entry, epochs, reads_of, writes_of, open_reads, open_writes, NoReadAbove, AllSentInQuiet}
+use Rattle.off_chip.specs.Epochs.{Entry, EpochFaithful, EndedFaithful, LogFaithful, epochs, reads_of, writes_of, open_reads, open_writes, NoReadAbove, AllSentInQuiet}
 use Rattle.off_chip.specs.Words.{words_read, words_written, pieces_sent, bytes_sent}
 
 abbrev block : ℕ → ℕ → Block
@@ -281,3 +281,25 @@ inside = search arith
 outside : (AllInside layout (Note (Drop (Tree 40)) ∷ at 33) → ⊥) × (AllInside layout (BlockWrite (Log 5) (block 0 9) ∷ at 33) → ⊥)
 unfolding height_of
 outside = (λ all. let lt : 40 < 40 = all.1 in omega arith, λ all. let lt : 5 < 5 = all.1 in omega arith)
+
+-- all is faithful up to event 30, which is a read of the tree: the epoch is faithful all the same
+all_faithful : AllFaithful image (at 30)
+all_faithful = search rules
+
+some_unfaithful : (AllFaithful image (at 31) → ⊥) × SomeUnfaithful image (at 31) × SomeUnfaithful image (at 33)
+some_unfaithful = (λ all. let e : false ≡ true = all.1 in cc, inr refl, inl (inl (inr refl)))
+
+epoch_faithful : EpochFaithful image (at 33) × EndedFaithful image (at 33) × LogFaithful image (at 33)
+epoch_faithful = (search rules, search rules, search rules)
+
+-- a read with an old stamp, and its epoch once it has ended
+epoch_unfaithful : (EpochFaithful image (BlockRead (Log 1) (block 0 4) ∷ at 33) → ⊥) × (LogFaithful image (BlockRead (Log 1) (block 0 4) ∷ at 33) → ⊥)
+epoch_unfaithful = (λ epoch. let e : false ≡ true = epoch.1 in cc, λ all. let e : false ≡ true = all.1 in cc)
+
+epoch_ended : EpochFaithful image (Note CheckPassed ∷ BlockRead (Log 1) (block 0 4) ∷ at 33)
+    × (EndedFaithful image (Note CheckPassed ∷ BlockRead (Log 1) (block 0 4) ∷ at 33) → ⊥)
+epoch_ended = (tt, λ ended. let e : false ≡ true = ended.1.1 in cc)
+
+-- log block 1 is resident at events 28 and 29 only, and these are no boundaries; three instructions were done at the last boundary alone
+at_boundaries : AtEach (is_boundary 6) (λ older. is_resident (Log 1) older ≡ false) (at 33) × (AtEach (is_boundary 6) (λ older. retired older ≤ 2) (at 33) → ⊥)
+at_boundaries = (search rules, λ each. let le : 3 ≤ 2 = each.1 in omega arith)
