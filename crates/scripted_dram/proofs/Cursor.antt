@@ -67,7 +67,7 @@ none_due count k [] below = refl
 none_due count k (change ∷ changes) below =
     let parts = and_parts (is_below k (number_of count change.when)) (list_all (λ later. is_below k (number_of count later.when)) changes) below in
     let here : is_due count k change.when ≡ false =
-        is_due-number_of count k change.when ∙ below_not_now k (number_of count change.when) parts.0 in
+    is_due-number_of count k change.when ∙ below_not_now k (number_of count change.when) parts.0 in
     rw here (none_due count k changes parts.1)
 
 -- where a first number is above the count, none behind it is due
@@ -76,7 +76,7 @@ none_due_behind count k first [] above order = refl
 none_due_behind count k first (change ∷ changes) above order =
     let parts = and_parts (may_precede first change.when) (list_all (λ later. may_precede first later.when) changes) order in
     let here : is_due count k change.when ≡ false =
-        is_due-number_of count k change.when ∙ above_precedes count k first change.when above parts.0 in
+    is_due-number_of count k change.when ∙ above_precedes count k first change.when above parts.0 in
     rw here (none_due_behind count k first changes above parts.1)
 
 -- where the cursor does not go on, none of the further changes is due
@@ -86,7 +86,7 @@ none_due_further count k (change ∷ changes) stops order =
     let parts = and_parts (list_all (λ later. may_precede change.when later.when) changes) (are_in_order changes) order in
     let above : is_above k (number_of count change.when) ≡ true = sym (not-not (is_above k (number_of count change.when))) ∙ ap not stops in
     let here : is_due count k change.when ≡ false =
-        is_due-number_of count k change.when ∙ above_not_now k (number_of count change.when) above in
+    is_due-number_of count k change.when ∙ above_not_now k (number_of count change.when) above in
     rw here (none_due_behind count k change.when changes above parts.0)
 
 -- further changes are in order too
@@ -114,8 +114,8 @@ more_stored test changes i change store before below is done =
     let P : Change → Type 0 = λ here. changes_at test (take (i + 1) changes) ≡ changes_at test (take i changes) ++ cond (test here.when) (here ∷ []) [] in
     let more : P change = subst P (sym is) (filter_more (λ change. test change.when) changes i change below) in
     ap (λ store. if test change.when then store_changed change.what store else store) done
-        ∙ one_stored (test change.when) change (changes_at test (take i changes)) store
-        ∙ ap (λ changes. all_stored changes store) (sym more)
+    ∙ one_stored (test change.when) change (changes_at test (take i changes)) store
+    ∙ ap (λ changes. all_stored changes store) (sym more)
 
 -- before any is done, none of those that the cursor has passed is due
 pub none_passed : (count : Count) (k : ℕ) (changes : List Change) (cursor : ℕ) → IsPassed count k changes cursor → changes_at (is_due count k) (take cursor changes) ≡ []
@@ -154,8 +154,8 @@ pub all_done : (count : Count) (k : ℕ) (changes : List Change) (cursor : ℕ) 
 all_done count k changes cursor stops order =
     let test : Change → Bool = λ change. is_due count k change.when in
     let further : changes_at (is_due count k) (drop cursor changes) ≡ [] =
-        none_due_further count k (drop cursor changes) stops (are_in_order-drop cursor changes order) in
+    none_due_further count k (drop cursor changes) stops (are_in_order-drop cursor changes order) in
     sym (append-nil (changes_at (is_due count k) (take cursor changes)))
-        ∙ ap (λ l. changes_at (is_due count k) (take cursor changes) ++ l) (sym further)
-        ∙ sym (filter-append test (take cursor changes) (drop cursor changes))
-        ∙ ap (filter test) (take-append-drop cursor changes)
+    ∙ ap (λ l. changes_at (is_due count k) (take cursor changes) ++ l) (sym further)
+    ∙ sym (filter-append test (take cursor changes) (drop cursor changes))
+    ∙ ap (filter test) (take-append-drop cursor changes)

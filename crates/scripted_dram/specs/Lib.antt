@@ -1,4 +1,5 @@
 pub mod Changes
 pub mod Due
 pub mod ScriptMemory
+pub mod Scripted
 pub mod Store

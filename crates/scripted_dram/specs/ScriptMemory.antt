@@ -1,5 +1,5 @@
 -- Off-chip memory under a script: a fold over one finished trace.
-use Rattle.std.specs.Prelude.{ℕ, ◌+◌, nat_eq, nat_le, nat_lt, Bool, true, false, not, ◌&&◌, List, [], ◌∷◌, None, replicate}
+use Rattle.std.specs.Prelude.{ℕ, ◌+◌, nat_eq, nat_le, nat_lt, Bool, true, false, not, ◌&&◌, if◌then◌else◌, List, [], ◌∷◌, None, replicate}
 use Rattle.std.specs.List.{filter}
 use Rattle.aegis_num.specs.declared.limits.TheConstants.{SAVE_SLOTS}
 use Rattle.regions.specs.declared.layout.Layout.{Layout}
@@ -55,48 +55,33 @@ beginning layout statics script = record {
 abbrev pub readied : Layout → List Change → Moment → State
 readied layout script moment = all_changed layout (changes_at (is_before_event moment.events) script) moment.state
 
--- how many suspensions there were behind a mark
-abbrev pub suspensions_behind : Mark → ℕ → ℕ
-suspensions_behind mark.Enter k = k
-suspensions_behind (mark.Retire who) k = k
-suspensions_behind (mark.Drop place) k = k
-suspensions_behind mark.CheckStart k = k
-suspensions_behind mark.CheckPassed k = k
-suspensions_behind (mark.Sent count) k = k
-suspensions_behind mark.Suspend k = k + 1
-suspensions_behind mark.Resume k = k
+-- the mark is that of a suspension
+abbrev pub is_suspend : Mark → Bool
+is_suspend mark.Enter = false
+is_suspend (mark.Retire who) = false
+is_suspend (mark.Drop place) = false
+is_suspend mark.CheckStart = false
+is_suspend mark.CheckPassed = false
+is_suspend (mark.Sent count) = false
+is_suspend mark.Suspend = true
+is_suspend mark.Resume = false
 
--- the changes that follow a mark, behind so many suspensions: those of its number follow the mark Suspend
-abbrev pub changes_behind : Mark → ℕ → List Change → List Change
-changes_behind mark.Enter k script = []
-changes_behind (mark.Retire who) k script = []
-changes_behind (mark.Drop place) k script = []
-changes_behind mark.CheckStart k script = []
-changes_behind mark.CheckPassed k script = []
-changes_behind (mark.Sent count) k script = []
-changes_behind mark.Suspend k script = changes_at (is_at_suspension k) script
-changes_behind mark.Resume k script = []
+-- the event is the mark of a suspension
+abbrev pub is_suspension : Event → Bool
+is_suspension (BlockRead at block) = false
+is_suspension (BlockWrite at block) = false
+is_suspension (WordRead by at word) = false
+is_suspension (WordWrite by at word) = false
+is_suspension (Note mark) = is_suspend mark
 
--- the moment behind an event, from memory just before it
+-- the moment behind an event, from memory just before it: a write puts its bytes, and the suspension of number K, counted
+-- from 0, is followed by the `suspend K` changes
 abbrev pub behind : Layout → List Change → Event → State → Moment → Moment
-behind layout script (BlockRead at block) ready moment =
-    record { state = ready; events = moment.events + 1; suspensions = moment.suspensions }
-behind layout script (BlockWrite at block) ready moment = record {
-  state = record ready { memory = after_event layout (BlockWrite at block) ready.memory };
+behind layout script event ready moment = record {
+  state = all_changed layout (if is_suspension event then changes_at (is_at_suspension moment.suspensions) script else [])
+      (record { memory = after_event layout event ready.memory; slots = ready.slots });
   events = moment.events + 1;
-  suspensions = moment.suspensions;
-}
-behind layout script (WordRead by at word) ready moment =
-    record { state = ready; events = moment.events + 1; suspensions = moment.suspensions }
-behind layout script (WordWrite by at word) ready moment = record {
-  state = record ready { memory = after_event layout (WordWrite by at word) ready.memory };
-  events = moment.events + 1;
-  suspensions = moment.suspensions;
-}
-behind layout script (Note mark) ready moment = record {
-  state = all_changed layout (changes_behind mark moment.suspensions script) ready;
-  events = moment.events + 1;
-  suspensions = suspensions_behind mark moment.suspensions;
+  suspensions = if is_suspension event then moment.suspensions + 1 else moment.suspensions;
 }
 
 -- the moment behind the next event

@@ -67,7 +67,8 @@ pub fn word_at(memory: &Region, at: usize) -> u32
 /// Puts a word over the one at an address.
 pub fn put_word(memory: &mut Region, at: usize, word: u32)
     requires { at + 4 ≤ length memory.old }
-    ensures { memory.new ≡ put at (to_be_bytes w32 word) memory.old }
+    ensures bytes { memory.new ≡ put at (to_be_bytes w32 word) memory.old }
+    ensures size { length memory.new ≡ length memory.old }
 {
     memory.copy_in(at, &word.to_be_bytes());
 }

@@ -2,7 +2,7 @@
 ghost use Rattle.std.specs.Prelude.{◌≡◌, ◌+◌, ◌<◌, ◌^◌, true, length, drop, if◌then◌else◌};
 ghost use Rattle.adversary_script.specs.Rules.{KeepsRules, is_in_range};
 ghost use Rattle.scripted_dram.specs.ScriptMemory.{changes_at, is_at_start};
-ghost use Rattle.scripted_dram.specs.Due.{IsPassed, goes_on, is_above, is_due, is_now, number_of};
+ghost use Rattle.scripted_dram.specs.Due.{IsPassed, goes_on, is_above, is_due, number_of};
 ghost use Rattle.scripted_dram.specs.Store.{all_stored, store_changed};
 
 use crate::storage::Storage;
@@ -86,4 +86,32 @@ pub fn do_due(
         next += 1;
     }
     next
+}
+
+// Whether a change is done at the start.
+fn is_at_start(when: When) -> bool
+    ensures { result ≡ is_at_start when }
+{
+    matches!(when, When::Start)
+}
+
+// Does a change if it is done at the start.
+fn do_if_at_start(storage: &mut Storage, change: &Change)
+    requires { is_in_range change.now.what ≡ true }
+    ensures { storage.new ≡ (if is_at_start change.now.when
+        then store_changed change.now.what storage.old else storage.old) }
+{
+    if is_at_start(change.when) {
+        storage.change(&change.what);
+    }
+}
+
+/// Does the changes that are done at the start, in order.
+pub fn do_at_start(storage: &mut Storage, changes: &[Change])
+    requires { KeepsRules changes.now }
+    ensures { storage.new ≡ all_stored (changes_at is_at_start changes.now) storage.old }
+{
+    for i in 0..changes.len() {
+        do_if_at_start(storage, &changes[i]);
+    }
 }

@@ -3,4 +3,7 @@
 
 mod bytes;
 mod due;
+mod scripted;
 mod storage;
+
+pub use scripted::ScriptedDram;

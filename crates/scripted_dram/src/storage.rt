@@ -1,20 +1,24 @@
 //! All bytes of off-chip memory in one region, the slots for blocks, and what each change does to them.
-ghost use Rattle.std.specs.Prelude.{◌≡◌, ◌+◌, ◌≤◌, ◌<◌, true, length, IfSome};
+ghost use Rattle.std.specs.Prelude.{◌≡◌, ◌+◌, ◌≤◌, ◌<◌, ◌*◌, true, length, replicate, None, IfOk, IfSome};
 ghost use Rattle.regions.specs.Blocks.{data_blocks};
 ghost use Rattle.adversary_script.specs.declared.change.What.TheVariants.{Open, Bytes, Save, Back, Copy};
 ghost use Rattle.adversary_script.specs.Rules.{is_in_range};
 ghost use Rattle.off_chip.specs.declared.event.Event.TheVariants.{BlockRead, BlockWrite, WordRead, WordWrite};
 ghost use Rattle.off_chip.specs.Answers.{Holds, after_event};
-ghost use Rattle.off_chip.specs.Memory.{HasPlace, IsWordAddress, size_of, start_of_place, stored_bytes};
+ghost use Rattle.off_chip.specs.Memory.{HasPlace, IsWordAddress, loaded, size_of, static_blocks, with_statics, start_of_place, stored_bytes};
 ghost use Rattle.scripted_dram.specs.Changes.{data_place, place_of, start_of_target};
 ghost use Rattle.scripted_dram.specs.Store.{store_changed, with_memory};
 
 use crate::bytes::{block_at, put_block, put_bytes, put_whole, put_word, whole_at, word_at};
 use adversary_script::{Target, What};
-use aegis_num::{Block, Place};
-use off_chip::{STORED_BYTES, Who, blocks_of_tree, start_of};
+use aegis_num::limits::SAVE_SLOTS;
+use aegis_num::{Block, OutOfMemory, Place};
+use off_chip::{
+    RESUME_WORD, STORED_BYTES, Who, blocks_of_tree, size_of, start_of, static_block, static_place,
+};
 use raw_region::Region;
-use regions::{Layout, leaf};
+use regions::{Layout, UNTRUSTED_START, leaf};
+use std::alloc::Global;
 use std::marker::Model;
 
 // The place of a data block.
@@ -73,7 +77,50 @@ impl Model for Storage {
     ghost invariant = { λ s. IsStore s.layout s.tree_blocks s.memory s.slots.items };
 }
 
+// Puts the static blocks at their places.
+fn put_statics(memory: &mut Region, layout: &Layout, statics: &[u8])
+    requires memory { length memory.old ≡ size_of layout.now }
+    requires statics { length statics.now ≡ 64 * static_blocks layout.now }
+    ensures bytes { memory.new ≡ with_statics layout.now statics.now (static_blocks layout.now) memory.old }
+    ensures size { length memory.new ≡ size_of layout.now }
+{
+    let tree_blocks = blocks_of_tree(layout);
+    for n in 0..layout.constants + layout.code {
+        let start = start_of(tree_blocks, static_place(layout, n));
+        put_block(memory, start, &static_block(statics, n));
+    }
+}
+
+// What a memory begins with.
+fn load(alloc: Global, layout: &Layout, statics: &[u8]) -> Result<Region, OutOfMemory>
+    requires { length statics.now ≡ 64 * static_blocks layout.now }
+    ensures bytes { IfOk result (λ memory. memory ≡ loaded layout.now statics.now) }
+    ensures size { IfOk result (λ memory. length memory ≡ size_of layout.now) }
+{
+    let mut memory = Region::new(alloc, size_of(layout))?;
+    put_statics(&mut memory, layout, statics);
+    put_word(&mut memory, UNTRUSTED_START as usize, RESUME_WORD);
+    Ok(memory)
+}
+
 impl Storage {
+    /// What a memory begins with, before any change.
+    pub fn new(alloc: Global, layout: &Layout, statics: &[u8]) -> Result<Storage, OutOfMemory>
+        requires { length statics.now ≡ 64 * static_blocks layout.now }
+        ensures { IfOk result (λ storage. storage ≡ record {
+          layout = layout.now;
+          state = record { memory = loaded layout.now statics.now; slots = replicate 16 None };
+        }) }
+    {
+        let memory = load(alloc, layout, statics)?;
+        Ok(Storage {
+            layout: *layout,
+            tree_blocks: blocks_of_tree(layout),
+            memory,
+            slots: vec![in alloc; None; SAVE_SLOTS as usize]?,
+        })
+    }
+
     // Writes open bytes.
     fn open(&mut self, at: u32, bytes: &[u8])
         requires { at + length bytes.now ≤ 65536 }

@@ -30,4 +30,4 @@ pub returns-clause-done : goal.returns-clause-done
 returns-clause-done c =
     let changes = c.args.changes.now in
     c.due.invariant.done ∙ ap (λ done. all_stored done c.args.storage.now)
-        (all_done c.args.count c.args.k changes c.due.next (sym c.due-test.ensures.value) c.requires.rules.order)
+    (all_done c.args.count c.args.k changes c.due.next (sym c.due-test.ensures.value) c.requires.rules.order)
