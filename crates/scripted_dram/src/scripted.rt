@@ -1,15 +1,14 @@
 //! A memory that an adversary changes as a script says.
 ghost use Rattle.std.specs.Prelude.{◌≡◌, ◌*◌, ◌+◌, ◌<◌, ◌^◌, [], length, IfOk, if◌then◌else◌};
-ghost use Rattle.adversary_script.specs.Rules.{KeepsRules};
 ghost use Rattle.off_chip.specs.Memory.{static_blocks};
 ghost use Rattle.scripted_dram.specs.Due.{IsPassed};
 ghost use Rattle.scripted_dram.specs.declared.due.Count.TheVariants.{Events, Suspensions};
-ghost use Rattle.scripted_dram.specs.ScriptMemory.{IsAnsweredBy, changes_at, is_at_suspension, is_suspend};
+ghost use Rattle.scripted_dram.specs.ScriptMemory.{IsAnsweredBy, changes_at, is_at_suspension, is_before_event, is_suspend};
 ghost use Rattle.scripted_dram.specs.Store.{all_stored};
 
 use crate::due::{Count, do_at_start, do_due};
 use crate::storage::Storage;
-use adversary_script::{Change, Script};
+use adversary_script::Script;
 use aegis_num::{Block, OutOfMemory, Place};
 use off_chip::{Event, Mark, OffChip, Recorder, Trace, Who};
 use regions::Layout;
@@ -50,7 +49,94 @@ impl Model for ScriptedDram {
         d.recorder.trace d.storage.state d.suspensions d.next_at d.next_suspend };
 }
 
+// Whether a mark is that of a suspension.
+fn is_suspend(mark: Mark) -> bool
+    ensures { result ≡ is_suspend mark }
+{
+    matches!(mark, Mark::Suspend)
+}
+
+// Does the changes that are due before the event of this number, and answers where the cursor stands then.
+fn do_before(storage: &mut Storage, script: &Script, cursor: usize, events: u64) -> usize
+    requires { IsPassed Events events script.now cursor }
+    ensures done { storage.new ≡ all_stored (changes_at (is_before_event events) script.now) storage.old }
+    ensures passed { IsPassed Events (events + 1) script.now result }
+{
+    do_due(storage, script.as_slice(), cursor, Count::Events, events)
+}
+
+// Does the changes that follow a mark behind so many suspensions, and answers where the cursor stands then.
+fn do_behind(
+    storage: &mut Storage,
+    script: &Script,
+    mark: Mark,
+    cursor: usize,
+    suspensions: u64,
+) -> usize
+    requires { IsPassed Suspensions suspensions script.now cursor }
+    ensures done { storage.new ≡ all_stored (if is_suspend mark
+        then changes_at (is_at_suspension suspensions) script.now else []) storage.old }
+    ensures passed { IsPassed Suspensions (if is_suspend mark then suspensions + 1 else suspensions)
+        script.now result }
+{
+    if is_suspend(mark) {
+        return do_due(
+            storage,
+            script.as_slice(),
+            cursor,
+            Count::Suspensions,
+            suspensions,
+        );
+    }
+    cursor
+}
+
+// How many suspensions there are behind a mark.
+fn suspensions_behind(mark: Mark, suspensions: u64) -> u64
+    requires { suspensions + 1 < 2 ^ 64 }
+    ensures { result ≡ (if is_suspend mark then suspensions + 1 else suspensions) }
+{
+    if is_suspend(mark) {
+        suspensions + 1
+    } else {
+        suspensions
+    }
+}
+
 impl ScriptedDram {
+    /// A memory with no event yet, and room for so many. `statics` has the payloads of the constant blocks and
+    /// then those of the code blocks, 64 bytes each. All memory is taken here, and that it ran out is the one error.
+    pub fn new(
+        alloc: Global,
+        layout: &Layout,
+        statics: &[u8],
+        script: Script,
+        room: u64,
+    ) -> Result<ScriptedDram, OutOfMemory>
+        requires statics { length statics.now ≡ 64 * static_blocks layout.now }
+        ensures made { IfOk result (λ dram. dram ≡ record {
+          layout = layout.now;
+          statics = statics.now;
+          script = script;
+          trace = [];
+          room = room;
+        }) }
+    {
+        let recorder = Recorder::new(alloc, room)?;
+        let statics_kept = Vec::from_slice(alloc, statics)?;
+        let mut storage = Storage::new(alloc, layout, statics)?;
+        do_at_start(&mut storage, script.as_slice());
+        Ok(ScriptedDram {
+            storage,
+            statics: statics_kept,
+            script,
+            suspensions: 0,
+            next_at: 0,
+            next_suspend: 0,
+            recorder,
+        })
+    }
+
     /// The events of all calls, oldest first.
     pub fn into_trace(self) -> Trace
         ensures events { result ≡ self.trace }
@@ -60,4 +146,82 @@ impl ScriptedDram {
     {
         self.recorder.into_trace()
     }
+}
+
+impl OffChip for ScriptedDram {
+    ghost use Rattle.std.specs.Prelude.{Some};
+    ghost use Rattle.std.proofs.Common.{refl, ap, ◌∙◌};
+    ghost use Rattle.scripted_dram.specs.Scripted.{SameScripted, scripted_contents};
+
+    ghost trace = { λ d. d.trace };
+
+    ghost room = { λ d. d.room };
+
+    ghost layout = { λ d. Some d.layout };
+
+    ghost contents = { λ d. Some (scripted_contents d) };
+
+    ghost same_memory = { SameScripted };
+
+    fn room(&self) -> u64 {
+        self.recorder.room()
+    }
+
+    fn events(&self) -> u64 {
+        self.recorder.events()
+    }
+
+    fn read_block(&mut self, at: Place, into: &mut Block) {
+        let events = self.recorder.events();
+        self.next_at = do_before(&mut self.storage, &self.script, self.next_at, events);
+        *into = self.storage.read_block(at);
+        self.recorder.append(Event::BlockRead { at, block: *into });
+    }
+
+    fn write_block(&mut self, at: Place, block: &Block) {
+        let events = self.recorder.events();
+        self.next_at = do_before(&mut self.storage, &self.script, self.next_at, events);
+        self.storage.write_block(at, block);
+        self.recorder
+            .append(Event::BlockWrite { at, block: *block });
+    }
+
+    fn read_word(&mut self, by: Who, at: u32) -> u32 {
+        let events = self.recorder.events();
+        self.next_at = do_before(&mut self.storage, &self.script, self.next_at, events);
+        let word = self.storage.read_word(by, at);
+        self.recorder.append(Event::WordRead { by, at, word });
+        word
+    }
+
+    fn write_word(&mut self, by: Who, at: u32, word: u32) {
+        let events = self.recorder.events();
+        self.next_at = do_before(&mut self.storage, &self.script, self.next_at, events);
+        self.storage.write_word(by, at, word);
+        self.recorder.append(Event::WordWrite { by, at, word });
+    }
+
+    fn note(&mut self, mark: Mark) {
+        let events = self.recorder.events();
+        self.next_at = do_before(&mut self.storage, &self.script, self.next_at, events);
+        self.next_suspend = do_behind(
+            &mut self.storage,
+            &self.script,
+            mark,
+            self.next_suspend,
+            self.suspensions,
+        );
+        self.suspensions = suspensions_behind(mark, self.suspensions);
+        self.recorder.append(Event::Note(mark));
+    }
+
+    ghost reflexive = { λ a. record { layout = refl; statics = refl; script = refl } };
+
+    ghost transitive = { λ a b c p q. record {
+      layout = p.layout ∙ q.layout;
+      statics = p.statics ∙ q.statics;
+      script = p.script ∙ q.script;
+    } };
+
+    ghost same_layout = { λ a b p. ap Some p.layout };
 }
