@@ -23,3 +23,6 @@ pub use stored::{
     static_block, static_place, word_of_bytes,
 };
 pub use trace::Trace;
+
+#[cfg(test)]
+mod tests;

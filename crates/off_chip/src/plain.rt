@@ -90,12 +90,10 @@ impl PlainDram {
         room: u64,
     ) -> Result<PlainDram, OutOfMemory>
         requires statics { length statics.now ≡ 64 * static_blocks layout.now }
-        ensures made { IfOk result (λ dram. dram ≡ record {
-          layout = layout.now;
-          statics = statics.now;
-          trace = [];
-          room = room;
-        }) }
+        ensures layout { IfOk result (λ dram. dram.layout ≡ layout.now) }
+        ensures statics { IfOk result (λ dram. dram.statics ≡ statics.now) }
+        ensures empty { IfOk result (λ dram. dram.trace ≡ []) }
+        ensures room { IfOk result (λ dram. dram.room ≡ room) }
     {
         let recorder = Recorder::new(alloc, room)?;
         let memory = load(alloc, layout, statics)?;

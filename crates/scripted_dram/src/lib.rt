@@ -7,3 +7,6 @@ mod scripted;
 mod storage;
 
 pub use scripted::ScriptedDram;
+
+#[cfg(test)]
+mod tests;

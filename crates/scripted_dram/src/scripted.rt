@@ -114,13 +114,11 @@ impl ScriptedDram {
         room: u64,
     ) -> Result<ScriptedDram, OutOfMemory>
         requires statics { length statics.now ≡ 64 * static_blocks layout.now }
-        ensures made { IfOk result (λ dram. dram ≡ record {
-          layout = layout.now;
-          statics = statics.now;
-          script = script;
-          trace = [];
-          room = room;
-        }) }
+        ensures layout { IfOk result (λ dram. dram.layout ≡ layout.now) }
+        ensures statics { IfOk result (λ dram. dram.statics ≡ statics.now) }
+        ensures script { IfOk result (λ dram. dram.script ≡ script) }
+        ensures empty { IfOk result (λ dram. dram.trace ≡ []) }
+        ensures room { IfOk result (λ dram. dram.room ≡ room) }
     {
         let recorder = Recorder::new(alloc, room)?;
         let statics_kept = Vec::from_slice(alloc, statics)?;
