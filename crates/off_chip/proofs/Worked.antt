@@ -20,7 +20,7 @@ use Rattle.off_chip.specs.Places.{AllInside}
 use Rattle.off_chip.specs.Statics.{static_at}
 use Rattle.off_chip.specs.Residency.{in_check, is_resident}
 use Rattle.off_chip.specs.Digests.{Digests, expected_digest}
-use Rattle.off_chip.specs.Epochs.{Entry, EpochFaithful, EndedFaithful, LogFaithful, epochs, reads_of, writes_of, open_reads, open_writes, NoReadAbove, AllSentInQuiet}
+use Rattle.off_chip.specs.Epochs.{LogEntry, EpochFaithful, EndedFaithful, LogFaithful, epochs, reads_of, writes_of, open_reads, open_writes, NoReadAbove, AllSentInQuiet}
 use Rattle.off_chip.specs.Words.{words_read, words_written, pieces_sent, bytes_sent}
 
 abbrev block : ℕ → ℕ → Block
@@ -106,7 +106,7 @@ image = from_image static
 abbrev tree : Digests
 tree = record { digest = λ n block. n ∷ block.stamp ∷ block.payload; parent = λ n. (n - 1) / 3; slot = λ n payload. n ∷ payload }
 
-abbrev entry : ℕ → ℕ → ℕ → Entry
+abbrev entry : ℕ → ℕ → ℕ → LogEntry
 entry n byte stamp = record { number = n; payload = byte ∷ []; stamp = stamp }
 
 abbrev word_at : ℕ → ℕ → traffic.Entry ℕ

@@ -21,7 +21,7 @@ use Rattle.off_chip.specs.SplitLaws.{split-some, split-append, split-one, split-
 use Rattle.off_chip.specs.Faithful.{First, from_image, is_faithful, IsFaithfulRead}
 use Rattle.off_chip.specs.FaithfulLaws.{is_faithful-Decides}
 use Rattle.off_chip.specs.Residency.{in_check}
-use Rattle.off_chip.specs.Epochs.{Entry, log_read, log_written, is_passed, is_check_start, epochs, check_of, reads_of, writes_of, open_reads, check_reads, open_writes, is_log_read, EpochFaithful, OpenReadsFaithful, EndedFaithful, LogFaithful, IsQuiet, ReadNotAbove, NoReadAbove, ReadsNotAbove, SentInQuiet, AllSentInQuiet, SentBehindQuiet}
+use Rattle.off_chip.specs.Epochs.{LogEntry, log_read, log_written, is_passed, is_check_start, epochs, check_of, reads_of, writes_of, open_reads, check_reads, open_writes, is_log_read, EpochFaithful, OpenReadsFaithful, EndedFaithful, LogFaithful, IsQuiet, ReadNotAbove, NoReadAbove, ReadsNotAbove, SentInQuiet, AllSentInQuiet, SentBehindQuiet}
 
 -- ---- the epochs of a trace
 
@@ -80,14 +80,14 @@ in_check-since (event ∷ older) = in_check-since older
 in_check-open : (older : List Event) → in_check older ≡ list_any is_check_start (open_epoch older)
 in_check-open older = in_check-since older ∙ sym (any-history is_check_start (since is_passed older))
 
-reads-cond : (b : Bool) (check : List Event) (event : Event) (reads : List Entry) → reads ≡ reads_of check → (b ≡ false → reads_of check ≡ [])
+reads-cond : (b : Bool) (check : List Event) (event : Event) (reads : List LogEntry) → reads ≡ reads_of check → (b ≡ false → reads_of check ≡ [])
     → reads ++ cond b (option_to_list (log_read event)) [] ≡ reads_of (cond b (check ++ event ∷ []) [])
 reads-cond true check event reads same none =
-    ap (λ (xs : List Entry). xs ++ option_to_list (log_read event)) same
-    ∙ ap (λ (xs : List Entry). reads_of check ++ xs) (one (log_read event))
+    ap (λ (xs : List LogEntry). xs ++ option_to_list (log_read event)) same
+    ∙ ap (λ (xs : List LogEntry). reads_of check ++ xs) (one (log_read event))
     ∙ sym (filter_map-append log_read check (event ∷ []))
   where
-    one : (o : Option Entry) → option_to_list o ≡ cons_option o []
+    one : (o : Option LogEntry) → option_to_list o ≡ cons_option o []
     one None = refl
     one (Some x) = refl
 reads-cond false check event reads same none = append-nil reads ∙ same ∙ none refl
@@ -134,9 +134,9 @@ open_writes-later trace earlier previous epoch same =
           let last : open_epoch (until is_passed (history trace)) ≡ previous =
           ap (λ (h : List Event). open_epoch h) (sym (history-history (until is_passed (history trace))))
           ∙ last-epoch (history (until is_passed (history trace))) earlier previous before in
-          ap (λ (xs : List Entry). xs ++ told log_written (since is_passed (history trace)))
+          ap (λ (xs : List LogEntry). xs ++ told log_written (since is_passed (history trace)))
           (check_reads-in_order (until is_passed (history trace)) ∙ ap (λ (xs : List Event). reads_of (check_of xs)) last)
-          ∙ ap (λ (xs : List Entry). reads_of (check_of previous) ++ xs) written
+          ∙ ap (λ (xs : List LogEntry). reads_of (check_of previous) ++ xs) written
     ]
 
 -- an epoch that a passed check ends has become the one before the open epoch

@@ -15,20 +15,20 @@ use Rattle.off_chip.specs.Faithful.{First, is_faithful, IsFaithfulRead}
 use Rattle.off_chip.specs.Residency.{in_check}
 
 -- an entry of the log: the number of a block, its payload and its stamp
-pub record Entry : Type 0 where
+pub record LogEntry : Type 0 where
   pub number : ℕ
   pub payload : List ℕ
   pub stamp : ℕ
 
-abbrev pub entry_of : ℕ → Block → Entry
+abbrev pub entry_of : ℕ → Block → LogEntry
 entry_of n block = record { number = n; payload = block.payload; stamp = block.stamp }
 
 -- the entry of a log read, and of a log write
-abbrev pub log_read : Event → Option Entry
+abbrev pub log_read : Event → Option LogEntry
 log_read (BlockRead (Log n) block) = Some (entry_of n block)
 log_read event = None
 
-abbrev pub log_written : Event → Option Entry
+abbrev pub log_written : Event → Option LogEntry
 log_written (BlockWrite (Log n) block) = Some (entry_of n block)
 log_written event = None
 
@@ -54,27 +54,27 @@ check_of [] = []
 check_of (event ∷ rest) = if is_check_start event then rest else check_of rest
 
 -- what the log reads of an epoch are, with those of its check
-abbrev pub reads_of : List Event → List Entry
+abbrev pub reads_of : List Event → List LogEntry
 reads_of epoch = filter_map log_read epoch
 
 -- what the writes of an epoch are: the entries that the check before it read, and then its log writes
-abbrev pub writes_of : List Event → List Event → List Entry
+abbrev pub writes_of : List Event → List Event → List LogEntry
 writes_of previous epoch = reads_of (check_of previous) ++ filter_map log_written epoch
 
 -- ---- over the history
 
 -- the reads of the open epoch
-abbrev pub open_reads : List Event → List Entry
+abbrev pub open_reads : List Event → List LogEntry
 open_reads older = told log_read (since is_passed older)
 
 -- the entries that the check of the open epoch read so far: its log reads inside a check
-abbrev pub check_reads : List Event → List Entry
+abbrev pub check_reads : List Event → List LogEntry
 check_reads [] = []
 check_reads (event ∷ older) =
     if is_passed event then [] else check_reads older ++ (if in_check older then option_to_list (log_read event) else [])
 
 -- the writes of the open epoch
-abbrev pub open_writes : List Event → List Entry
+abbrev pub open_writes : List Event → List LogEntry
 open_writes older = check_reads (until is_passed older) ++ told log_written (since is_passed older)
 
 -- the open epoch holds no log read
