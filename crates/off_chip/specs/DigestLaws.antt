@@ -8,7 +8,7 @@ use Rattle.aegis_num.specs.declared.storage.Place.{Place}
 use Rattle.aegis_num.specs.declared.storage.Place.TheVariants.{Tree}
 use Rattle.off_chip.specs.declared.event.Event.{Event}
 use Rattle.off_chip.specs.declared.event.Event.TheVariants.{BlockRead, BlockWrite}
-use Rattle.off_chip.specs.History.{history, IsLast}
+use Rattle.off_chip.specs.History.{or_else, history, IsLast}
 use Rattle.off_chip.specs.NewestLaws.{newest-IsLast, IsLast-newest}
 use Rattle.off_chip.specs.Writes.{same_place, written_at, read_at}
 use Rattle.off_chip.specs.WriteLaws.{same_place-Decides, same_place-refl, written_at-event}
@@ -165,3 +165,18 @@ expected_digest-in_order tree n trace expected = (
       last-told tree n trace expected last.before last.event last.rest last.parts last.answer last.nothing_behind,
   λ is. IsLast-newest (λ event _. digest_told tree n event) (λ event _. digest_told tree n event) (λ event before. refl) trace expected (told-last tree n trace expected is),
 )
+
+-- ---- what one event does
+
+pub expected_digest-write : (tree : Digests) (n : ℕ) (block : Block) (older : List Event) → expected_digest tree n (BlockWrite (Tree n) block ∷ older) ≡ Some (tree.digest n block)
+expected_digest-write tree n block older = ap (λ (o : Option (List ℕ)). or_else o (expected_digest tree n older)) (digest_told-write tree n block)
+
+pub expected_digest-parent : (tree : Digests) (n : ℕ) (block : Block) (older : List Event) → n ≢ 0
+    → expected_digest tree n (BlockRead (Tree (tree.parent n)) block ∷ older) ≡ Some (tree.slot n block.payload)
+expected_digest-parent tree n block older other = ap (λ (o : Option (List ℕ)). or_else o (expected_digest tree n older)) (digest_told-parent tree n block other)
+
+-- an event that does not write the block, and does not read the parent of a block other than block 0, changes nothing
+pub expected_digest-other : (tree : Digests) (n : ℕ) (event : Event) (older : List Event) → written_at (Tree n) event ≡ None
+    → (n ≡ 0) ⊎ (read_at (Tree (tree.parent n)) event ≡ None) → expected_digest tree n (event ∷ older) ≡ expected_digest tree n older
+expected_digest-other tree n event older unwritten unread =
+    ap (λ (o : Option (List ℕ)). or_else o (expected_digest tree n older)) (untold tree n event unwritten unread)

@@ -57,6 +57,17 @@ pub is_faithful-Decides : (image : Place → Option (List ℕ)) (before : List E
 is_faithful-Decides image before place block =
     (λ same. faithful-by image before place block (last_write place (history before)) refl same, by-faithful image before place block)
 
+-- one read, where the last write-back is known
+pub is_faithful-written : (first : First) (place : Place) (block written : Block) (older : List Event) → last_write place older ≡ Some written
+    → Decides (is_faithful first (BlockRead place block) older) (block ≡ written)
+is_faithful-written first place block written older found =
+    let e : is_faithful first (BlockRead place block) older ≡ same_block block written = ap (λ (o : Option Block). is_expected first place block o) found in
+    (λ faithful. (same_block-Decides block written).0 (sym e ∙ faithful), λ same. e ∙ (same_block-Decides block written).1 same)
+
+pub is_faithful-unwritten : (first : First) (place : Place) (block : Block) (older : List Event) → last_write place older ≡ None
+    → is_faithful first (BlockRead place block) older ≡ first place block.payload
+is_faithful-unwritten first place block older found = ap (λ (o : Option Block). is_expected first place block o) found
+
 -- ---- all reads
 
 -- one of them is unfaithful, or all are faithful, and not both

@@ -12,6 +12,9 @@ use Rattle.off_chip.specs.History.{history, Each, EachCut, EachNumber, Somewhere
 pub history-push : (trace : List Event) (event : Event) → history (trace ++ event ∷ []) ≡ event ∷ history trace
 history-push trace event = reverse-append trace (event ∷ [])
 
+pub history-appended : (before after : List Event) (event : Event) → after ≡ before ++ event ∷ [] → history after ≡ event ∷ history before
+history-appended before after event same = ap (λ (t : List Event). history t) same ∙ history-push before event
+
 pub history-append : (trace more : List Event) → history (trace ++ more) ≡ history more ++ history trace
 history-append trace more = reverse-append trace more
 

@@ -6,6 +6,7 @@ pub mod MemoryLaws
 pub mod Plain
 pub mod Recorded
 pub mod History
+pub mod Places
 pub mod Boundaries
 pub mod Writes
 pub mod Faithful
@@ -24,7 +25,6 @@ pub mod DigestLaws
 pub mod EpochLaws
 pub mod StepLaws
 pub mod WordLaws
-pub mod Places
 pub mod Statics
 pub mod StaticLaws
 pub mod OneMoreLaws

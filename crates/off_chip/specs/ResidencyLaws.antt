@@ -1,19 +1,20 @@
 -- What follows of resident places.
 use Rattle.std.proofs.Common.{◌≡◌, ℕ, Bool, true, false, cond, not, ◌&&◌, List, [], ◌∷◌, ◌++◌, Option, Some, None, refl, sym, ap, ◌∙◌, subst}
-use Rattle.std.specs.Prelude.{unwrap_or}
+use Rattle.std.specs.Prelude.{◌≢◌, unwrap_or}
 use Rattle.std.specs.Bool.{Decides}
-use Rattle.std.proofs.lemmas.Bool.{and_parts, both_ways, false_from_ne_true, not-true}
+use Rattle.std.proofs.lemmas.Bool.{and_right, and_parts, both_ways, false_from_ne_true, not-true}
 use Rattle.aegis_num.specs.declared.storage.Block.{Block}
 use Rattle.aegis_num.specs.declared.storage.Place.{Place}
 use Rattle.aegis_num.specs.declared.storage.Place.TheVariants.{Tree, Log}
 use Rattle.off_chip.specs.declared.event.Event.{Event}
 use Rattle.off_chip.specs.declared.event.Event.TheVariants.{BlockRead, BlockWrite, Note}
 use Rattle.off_chip.specs.declared.event.Mark.TheVariants.{Drop, CheckStart, CheckPassed}
-use Rattle.off_chip.specs.History.{history, Each, newest, IsLast}
+use Rattle.off_chip.specs.History.{or_else, history, Each, newest, IsLast}
 use Rattle.off_chip.specs.HistoryLaws.{history-cut, EachCut-Each}
 use Rattle.off_chip.specs.NewestLaws.{newest-IsLast, IsLast-newest}
+use Rattle.off_chip.specs.Places.{place_of}
 use Rattle.off_chip.specs.Writes.{same_place}
-use Rattle.off_chip.specs.WriteLaws.{same_place-Decides, same_place-refl}
+use Rattle.off_chip.specs.WriteLaws.{same_place-apart, same_place-Decides, same_place-refl}
 use Rattle.off_chip.specs.Residency.{check_told, in_check, is_log, concerning, is_resident, InCheck, Concerns, tree_read, log_read, write, dropped, IsResident}
 
 unwrap-true : (o : Option Bool) → unwrap_or o false ≡ true → o ≡ Some true
@@ -175,3 +176,38 @@ is_resident-Decides place trace = (
             nothing-concerns place (resident.before ++ BlockRead place resident.block ∷ between) later (resident.nothing_behind between later end split);
       })),
 )
+
+-- ---- what one event does
+
+pub is_resident-tree_read : (n : ℕ) (block : Block) (older : List Event) → is_resident (Tree n) (BlockRead (Tree n) block ∷ older) ≡ true
+is_resident-tree_read n block older = ap (λ (o : Option Bool). unwrap_or (or_else o (newest (concerning (Tree n)) older)) false) (concerning-tree n block older)
+
+pub is_resident-log_read : (n : ℕ) (block : Block) (older : List Event) → in_check older ≡ false → is_resident (Log n) (BlockRead (Log n) block ∷ older) ≡ true
+is_resident-log_read n block older outside =
+    ap (λ (o : Option Bool). unwrap_or (or_else o (newest (concerning (Log n)) older)) false) (concerning-log n block older outside)
+
+pub is_resident-check_read : (place : Place) (n : ℕ) (block : Block) (older : List Event) → in_check older ≡ true
+    → is_resident place (BlockRead (Log n) block ∷ older) ≡ is_resident place older
+is_resident-check_read place n block older inside =
+    ap (λ (b : Bool). unwrap_or (or_else (cond (same_place place (Log n) && not b) (Some true) None) (newest (concerning place) older)) false) inside
+    ∙ ap (λ (b : Bool). unwrap_or (or_else (cond b (Some true) None) (newest (concerning place) older)) false) (and_right (same_place place (Log n)) false refl)
+
+pub is_resident-write : (place : Place) (block : Block) (older : List Event) → is_resident place (BlockWrite place block ∷ older) ≡ false
+is_resident-write place block older = ap (λ (o : Option Bool). unwrap_or (or_else o (newest (concerning place) older)) false) (concerning-write place block older)
+
+pub is_resident-drop : (place : Place) (older : List Event) → is_resident place (Note (Drop place) ∷ older) ≡ false
+is_resident-drop place older = ap (λ (o : Option Bool). unwrap_or (or_else o (newest (concerning place) older)) false) (concerning-drop place older)
+
+-- an event that names no place or another one changes nothing
+concerning-elsewhere : (place : Place) (event : Event) (older : List Event) → place_of event ≢ Some place → concerning place event older ≡ None
+concerning-elsewhere place (BlockRead at block) older other =
+    ap (λ (b : Bool). cond (b && not (is_log at && in_check older)) (Some true) None) (same_place-apart place at (λ same. other (ap (λ (p : Place). Some p) (sym same))))
+concerning-elsewhere place (BlockWrite at block) older other =
+    ap (λ (b : Bool). cond b (Some false) None) (same_place-apart place at (λ same. other (ap (λ (p : Place). Some p) (sym same))))
+concerning-elsewhere place (Note (Drop at)) older other =
+    ap (λ (b : Bool). cond b (Some false) None) (same_place-apart place at (λ same. other (ap (λ (p : Place). Some p) (sym same))))
+concerning-elsewhere place event older other = refl
+
+pub is_resident-elsewhere : (place : Place) (event : Event) (older : List Event) → place_of event ≢ Some place → is_resident place (event ∷ older) ≡ is_resident place older
+is_resident-elsewhere place event older other =
+    ap (λ (o : Option Bool). unwrap_or (or_else o (newest (concerning place) older)) false) (concerning-elsewhere place event older other)

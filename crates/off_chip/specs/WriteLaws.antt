@@ -1,8 +1,8 @@
 -- What follows of block writes and their stamps.
 use Rattle.std.proofs.Common.{◌≡◌, ℕ, zero, suc, ◌+◌, ◌≤◌, Bool, true, false, cond, List, [], ◌∷◌, ◌++◌, length, Option, Some, None, refl, sym, ap, ◌∙◌, inl, inr, ◌⊎◌, arith, length-append}
-use Rattle.std.specs.Prelude.{◌↔◌, slice_get, filter_map}
+use Rattle.std.specs.Prelude.{◌≢◌, ◌↔◌, slice_get, filter_map}
 use Rattle.std.specs.Bool.{Decides}
-use Rattle.std.proofs.lemmas.Bool.{eqb-true, eq-eqb}
+use Rattle.std.proofs.lemmas.Bool.{false_from_ne_true, eqb-true, eq-eqb}
 use Rattle.std.proofs.lemmas.List.{append-nil}
 use Rattle.aegis_num.specs.declared.storage.Block.{Block}
 use Rattle.aegis_num.specs.declared.storage.Place.{Place}
@@ -47,6 +47,17 @@ read_at-event place (BlockRead at read) block same =
     let p : place ≡ at = (same_place-Decides place at).0 parts.0 in
     ap (λ (q : Place). BlockRead q read) (sym p) ∙ ap (λ (b : Block). BlockRead place b) parts.1
 read_at-event place event block same = cc
+
+pub same_place-apart : (place other : Place) → place ≢ other → same_place place other ≡ false
+same_place-apart place other apart = false_from_ne_true (same_place place other) (λ same. apart ((same_place-Decides place other).0 same))
+
+-- a write at the place is the last one, and a write elsewhere changes nothing
+pub last_write-here : (place : Place) (block : Block) (older : List Event) → last_write place (BlockWrite place block ∷ older) ≡ Some block
+last_write-here place block older = ap (λ (o : Option Block). or_else o (last_write place older)) (written_at-here place block)
+
+pub last_write-elsewhere : (place at : Place) (block : Block) (older : List Event) → place ≢ at → last_write place (BlockWrite at block ∷ older) ≡ last_write place older
+last_write-elsewhere place at block older apart =
+    ap (λ (b : Bool). or_else (cond b (Some block) None) (last_write place older)) (same_place-apart place at apart)
 
 -- ---- the last write-back, in order
 
