@@ -9,7 +9,7 @@ use Rattle.std.proofs.lemmas.List.Elements.{filter_map-append}
 use Rattle.std.proofs.lemmas.List.Folds.{list_any-append}
 use Rattle.aegis_num.specs.declared.storage.Block.{Block}
 use Rattle.aegis_num.specs.declared.storage.Place.{Place}
-use Rattle.aegis_num.specs.declared.storage.Place.TheVariants.{Log}
+use Rattle.aegis_num.specs.declared.storage.Place.TheVariants.{Tree, Log}
 use Rattle.off_chip.specs.declared.event.Event.{Event}
 use Rattle.off_chip.specs.declared.event.Event.TheVariants.{BlockRead, Note}
 use Rattle.off_chip.specs.declared.event.Mark.TheVariants.{Sent, CheckStart, CheckPassed}
@@ -18,10 +18,10 @@ use Rattle.off_chip.specs.HistoryLaws.{Each-EachCut, EachCut-Each, history-cut, 
 use Rattle.off_chip.specs.NewestLaws.{count-history}
 use Rattle.off_chip.specs.Writes.{is_block_write, block_writes}
 use Rattle.off_chip.specs.SplitLaws.{split-some, split-append, split-one, split-open, last-part, any-history, nil-push, push-same, told-turn, EachSince-at, EachSince-from}
-use Rattle.off_chip.specs.Faithful.{First, from_image, is_faithful, IsFaithfulRead}
+use Rattle.off_chip.specs.Faithful.{First, AllFaithful, from_image, is_faithful, IsFaithfulRead}
 use Rattle.off_chip.specs.FaithfulLaws.{is_faithful-Decides}
 use Rattle.off_chip.specs.Residency.{in_check}
-use Rattle.off_chip.specs.Epochs.{LogEntry, log_read, log_written, is_passed, is_check_start, epochs, check_of, reads_of, writes_of, open_reads, check_reads, open_writes, is_log_read, EpochFaithful, OpenReadsFaithful, EndedFaithful, LogFaithful, IsQuiet, ReadNotAbove, NoReadAbove, ReadsNotAbove, SentInQuiet, AllSentInQuiet, SentBehindQuiet}
+use Rattle.off_chip.specs.Epochs.{LogEntry, log_read, log_written, is_passed, is_check_start, epochs, check_of, reads_of, writes_of, open_reads, check_reads, open_writes, is_log_read, EpochFaithful, OpenReadsFaithful, EndedFaithful, LogFaithful, is_tree_read, TreeFaithful, IsQuiet, ReadNotAbove, NoReadAbove, ReadsNotAbove, SentInQuiet, AllSentInQuiet, SentBehindQuiet}
 
 -- ---- the epochs of a trace
 
@@ -236,3 +236,21 @@ AllSentInQuiet-in_order trace = (
   λ all. EachCut-Each SentInQuiet (λ event before. SentInQuiet event (history before))
       (λ event older holds. subst (λ (h : List Event). SentInQuiet event h) (history-history older) holds) trace (sent-cut trace all),
 )
+
+-- all reads are faithful where those of the tree and those of the log are
+both-faithful : (first : First) (event : Event) (older : List Event) → OnTrue (is_tree_read event) (IsTrue (is_faithful first event older))
+    → OnTrue (is_log_read event) (IsTrue (is_faithful first event older)) → IsTrue (is_faithful first event older)
+both-faithful first (BlockRead (Tree n) block) older tree log = tree
+both-faithful first (BlockRead (Log n) block) older tree log = log
+both-faithful first event older tree log = refl
+
+pub AllFaithful-both : (first : First) (older : List Event) → AllFaithful first older ↔ (TreeFaithful first older × LogFaithful first older)
+AllFaithful-both first [] = (λ all. (tt, tt), λ both. tt)
+AllFaithful-both first (event ∷ older) =
+    let ih = AllFaithful-both first older in (
+      λ all. (
+        ((ih.0 all.0).0, OnTrue_from (is_tree_read event) (IsTrue (is_faithful first event older)) (λ reads. all.1)),
+        ((ih.0 all.0).1, OnTrue_from (is_log_read event) (IsTrue (is_faithful first event older)) (λ reads. all.1)),
+      ),
+      λ both. (ih.1 (both.0.0, both.1.0), both-faithful first event older both.0.1 both.1.1),
+    )

@@ -4,7 +4,7 @@ use Rattle.std.specs.Prelude.{◌≡◌, ℕ, ◌≤◌, Bool, true, false, ⊤,
 use Rattle.std.specs.Bool.{OnTrue}
 use Rattle.std.specs.List.{slice_split}
 use Rattle.aegis_num.specs.declared.storage.Block.{Block}
-use Rattle.aegis_num.specs.declared.storage.Place.TheVariants.{Log}
+use Rattle.aegis_num.specs.declared.storage.Place.TheVariants.{Tree, Log}
 use Rattle.aegis_num.specs.declared.storage.Place.{Place}
 use Rattle.off_chip.specs.declared.event.Event.{Event}
 use Rattle.off_chip.specs.declared.event.Event.TheVariants.{BlockRead, BlockWrite, Note}
@@ -103,6 +103,15 @@ EndedFaithful first older = Each (λ event older. OnTrue (is_passed event) (Epoc
 -- each log read is faithful
 abbrev pub LogFaithful : First → List Event → Type 0
 LogFaithful first older = Each (λ event older. OnTrue (is_log_read event) (IsTrue (is_faithful first event older))) older
+
+-- whether an event is a read of a tree block
+abbrev pub is_tree_read : Event → Bool
+is_tree_read (BlockRead (Tree n) block) = true
+is_tree_read event = false
+
+-- each read of a tree block is faithful
+abbrev pub TreeFaithful : First → List Event → Type 0
+TreeFaithful first older = Each (λ event older. OnTrue (is_tree_read event) (IsTrue (is_faithful first event older))) older
 
 -- no log read has a stamp above the number of block writes before it
 abbrev pub ReadNotAbove : Event → List Event → Type 0

@@ -16,7 +16,7 @@ use Rattle.off_chip.specs.Faithful.{First, from_image, from_anything, is_faithfu
 use Rattle.off_chip.specs.Statics.{static_at, IsStatic}
 use Rattle.off_chip.specs.Residency.{check_told, in_check, concerning, is_resident, InCheck, IsResident}
 use Rattle.off_chip.specs.Digests.{Digests, digest_told, expected_digest, IsExpectedDigest}
-use Rattle.off_chip.specs.Epochs.{log_read, log_written, is_passed, epochs, reads_of, writes_of, open_reads, check_reads, open_writes, IsQuiet, NoReadAbove, ReadsNotAbove, AllSentInQuiet, SentBehindQuiet, EpochFaithful, OpenReadsFaithful, EndedFaithful, LogFaithful}
+use Rattle.off_chip.specs.Epochs.{log_read, log_written, is_passed, epochs, reads_of, writes_of, open_reads, check_reads, open_writes, IsQuiet, NoReadAbove, ReadsNotAbove, AllSentInQuiet, SentBehindQuiet, EpochFaithful, OpenReadsFaithful, EndedFaithful, LogFaithful, TreeFaithful}
 use Rattle.off_chip.specs.Words.{secure_read, secure_write, sent, words_read, words_written, pieces_sent, bytes_sent}
 
 -- boundaries, where entering takes so many events, and the steps between them
@@ -84,7 +84,9 @@ pub record EpochsInOrder : Type 0 where
   pub sent : (trace : List Event) → AllSentInQuiet (history trace) ↔ SentBehindQuiet trace
   pub faithful : (image : Place → Option (List ℕ)) (trace : List Event) → EpochFaithful (from_image image) (history trace) ↔ OpenReadsFaithful image trace
   -- all log reads are faithful where those of each epoch are
-  pub all : (first : First) (older : List Event) → LogFaithful first older ↔ (EndedFaithful first older × EpochFaithful first older)
+  pub log : (first : First) (older : List Event) → LogFaithful first older ↔ (EndedFaithful first older × EpochFaithful first older)
+  -- all reads are faithful where those of the tree and those of the log are
+  pub all : (first : First) (older : List Event) → AllFaithful first older ↔ (TreeFaithful first older × LogFaithful first older)
 
 -- words in and out, and bytes sent
 pub record WordsInOrder : Type 0 where
