@@ -1,5 +1,5 @@
 -- What is said of a history says the same of its trace in order, and what one more event changes. Each is a law of its definition.
-use Rattle.std.specs.Prelude.{◌≡◌, ℕ, ◌+◌, ◌≤◌, false, ◌⊎◌, ◌↔◌, List, [], ◌∷◌, ◌++◌, length, drop, sum, filter_map, Option, Some, None, option_to_list, unwrap_or, IsTrue, if◌then◌else◌}
+use Rattle.std.specs.Prelude.{Bool, ◌≡◌, ℕ, ◌+◌, ◌≤◌, false, ◌⊎◌, ◌↔◌, List, [], ◌∷◌, ◌++◌, length, drop, sum, count_by, filter_map, Option, Some, None, option_to_list, unwrap_or, IsTrue, if◌then◌else◌}
 use Rattle.std.specs.Bool.{Decides}
 use Rattle.std.specs.List.{slice_split}
 use Rattle.aegis_num.specs.declared.storage.Block.{Block}
@@ -9,7 +9,7 @@ use Rattle.off_chip.specs.declared.event.Event.{Event}
 use Rattle.off_chip.specs.declared.event.Event.TheVariants.{BlockRead, BlockWrite, Note}
 use Rattle.off_chip.specs.declared.event.Mark.TheVariants.{Retire, CheckPassed}
 use Rattle.off_chip.specs.declared.event.Who.TheVariants.{Secure}
-use Rattle.off_chip.specs.History.{history, or_else}
+use Rattle.off_chip.specs.History.{history, Each, EachCut, EachNumber, Somewhere, SomeCut, or_else, newest, IsLast, AtEach, AtEachCut, told, count, total, since}
 use Rattle.off_chip.specs.Boundaries.{is_retire, retired, is_suspend, suspensions, IsBoundary, IsStep, is_boundary, is_step, steps, since_step}
 use Rattle.off_chip.specs.Writes.{written_at, last_write, IsLastWrite, is_block_write, StampsFit, StampsNumbered}
 use Rattle.off_chip.specs.Faithful.{First, from_image, from_anything, is_faithful, AllFaithful, SomeUnfaithful, IsFaithfulRead, AllReadsFaithful, AllReadsNumbered, faithful_part, IsFaithfulPart}
@@ -18,6 +18,27 @@ use Rattle.off_chip.specs.Residency.{check_told, in_check, concerning, is_reside
 use Rattle.off_chip.specs.Digests.{Digests, digest_told, expected_digest, IsExpectedDigest}
 use Rattle.off_chip.specs.Epochs.{log_read, log_written, is_passed, epochs, reads_of, writes_of, open_reads, check_reads, open_writes, IsQuiet, NoReadAbove, ReadsNotAbove, AllSentInQuiet, SentBehindQuiet, EpochFaithful, OpenReadsFaithful, EndedFaithful, LogFaithful, TreeFaithful}
 use Rattle.off_chip.specs.Words.{secure_read, secure_write, sent, words_read, words_written, pieces_sent, bytes_sent}
+
+-- The words on histories, for tests and for what events tell
+pub record HistoriesInOrder (Told : Type 0) : Type 0 where
+  pub each : (test : Event → List Event → Bool) (trace : List Event)
+      → Each (λ event older. IsTrue (test event older)) (history trace) ↔ EachCut (λ event before. IsTrue (test event (history before))) trace
+  pub number : (test : Event → List Event → Bool) (trace : List Event)
+      → EachCut (λ event before. IsTrue (test event before)) trace ↔ EachNumber (λ event before. IsTrue (test event before)) trace
+  pub some : (test : Event → List Event → Bool) (trace : List Event)
+      → Somewhere (λ event older. IsTrue (test event older)) (history trace) ↔ SomeCut (λ event before. IsTrue (test event (history before))) trace
+  pub last : (f : Event → List Event → Option Told) (trace : List Event) (x : Told)
+      → (newest f (history trace) ≡ Some x) ↔ IsLast (λ event before. f event (history before)) trace x
+  pub joined : (f : Event → Option Told) (newer older : List Event)
+      → newest (λ event _. f event) (newer ++ older) ≡ or_else (newest (λ event _. f event) newer) (newest (λ event _. f event) older)
+  pub points : (kind test : List Event → Bool) (trace : List Event)
+      → AtEach kind (λ older. IsTrue (test older)) (history trace)
+      ↔ AtEachCut (λ before. IsTrue (kind (history before))) (λ before. IsTrue (test (history before))) trace
+  pub listed : (f : Event → Option Told) (trace : List Event) → told f (history trace) ≡ filter_map f trace
+  pub counted : (test : Event → Bool) (trace : List Event) → count test (history trace) ≡ count_by test trace
+  pub summed : (f : Event → Option ℕ) (trace : List Event) → total f (history trace) ≡ sum (filter_map f trace)
+  pub part : (test : Event → Bool) (trace : List Event) (earlier : List (List Event)) (part : List Event) → slice_split test trace ≡ earlier ++ part ∷ []
+      → history (since test (history trace)) ≡ part
 
 -- boundaries, where entering takes so many events, and the steps between them
 pub record BoundariesInOrder : Type 0 where

@@ -27,5 +27,6 @@ pub mod StepLaws
 pub mod WordLaws
 pub mod Statics
 pub mod StaticLaws
+pub mod WordsOnHistories
 pub mod OneMoreLaws
 pub mod InOrder

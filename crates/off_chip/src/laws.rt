@@ -1,6 +1,11 @@
 //! Laws of what is said of a trace. Proofs go back over the events, newest first; a reader goes over the trace in order. Each
 //! definition has both forms, and these functions do nothing but state that the two agree, and what one more event changes.
-ghost use Rattle.off_chip.specs.InOrder.{BoundariesInOrder, DigestsInOrder, EpochsInOrder, FaithfulInOrder, OneEventMore, ResidencyInOrder, StaticsInPlace, WordsInOrder, WritesInOrder};
+ghost use Rattle.off_chip.specs.InOrder.{BoundariesInOrder, DigestsInOrder, EpochsInOrder, FaithfulInOrder, HistoriesInOrder, OneEventMore, ResidencyInOrder, StaticsInPlace, WordsInOrder, WritesInOrder};
+
+/// What holds at each event, at some event and at some points, the latest event that tells something, and what events tell.
+pub fn histories_in_order<Told>()
+    ensures same { HistoriesInOrder Told }
+{}
 
 /// The boundaries of a trace, the instructions done, and the steps between boundaries.
 pub fn boundaries_in_order()

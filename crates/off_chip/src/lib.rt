@@ -13,8 +13,8 @@ mod trace;
 pub use bus::OffChip;
 pub use event::{Event, Mark, Who};
 pub use laws::{
-    boundaries_in_order, digests_in_order, epochs_in_order, faithful_in_order, one_event_more,
-    residency_in_order, statics_in_place, words_in_order, writes_in_order,
+    boundaries_in_order, digests_in_order, epochs_in_order, faithful_in_order, histories_in_order,
+    one_event_more, residency_in_order, statics_in_place, words_in_order, writes_in_order,
 };
 pub use plain::{PlainDram, RESUME_WORD};
 pub use recorder::Recorder;
