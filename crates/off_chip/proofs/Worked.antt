@@ -1,7 +1,7 @@
 -- One trace that has every case, and what each definition says of it. The answers were worked out by hand from the rules.
 use Rattle.std.proofs.Common.{inl, inr, ◌≡◌, ◌<◌, ℕ, ◌-◌, ◌/◌, ◌≤◌, zero, suc, Bool, true, false, List, [], ◌∷◌, ◌++◌, length, take, drop, replicate, eqb, Option, Some, None, refl, lit≤, arith, rules}
 use Rattle.std.specs.Prelude.{if◌then◌else◌}
-use Rattle.std.specs.List.{filter}
+use Rattle.std.specs.List.{filter, filter_map}
 use Rattle.aegis_num.specs.declared.storage.Block.{Block}
 use Rattle.aegis_num.specs.declared.storage.Place.{Place}
 use Rattle.aegis_num.specs.declared.storage.Place.TheVariants.{Tree, Log}
@@ -14,7 +14,7 @@ use Rattle.off_chip.specs.declared.event.Mark.TheVariants.{Enter, Retire, Drop, 
 use Rattle.off_chip.specs.declared.event.Who.TheVariants.{Secure, Untrusted}
 use Rattle.off_chip.specs.History.{history, AtEach}
 use Rattle.off_chip.specs.Boundaries.{enter_events, is_boundary, is_step, retired, suspensions, steps, since_step}
-use Rattle.off_chip.specs.Writes.{block_writes, last_write, StampsFit}
+use Rattle.off_chip.specs.Writes.{block_writes, read_at, last_write, StampsFit}
 use Rattle.off_chip.specs.Faithful.{First, AllFaithful, SomeUnfaithful, from_image, from_anything, is_faithful, faithful_part}
 use Rattle.off_chip.specs.Places.{AllInside}
 use Rattle.off_chip.specs.Statics.{static_at}
@@ -141,6 +141,9 @@ last_writes = (refl, refl, refl)
 -- a place of the tree and one of the log with the same number are two places
 last_writes-log : (last_write (Log 0) (at 21) ≡ Some (block 0 3)) × (last_write (Log 1) (at 33) ≡ Some (block 2 8)) × (last_write (Tree 1) (at 33) ≡ Some (block 11 6))
 last_writes-log = (refl, refl, refl)
+
+blocks_read : (filter_map (read_at (Tree 0)) trace ≡ block 30 2 ∷ block 31 4 ∷ []) × (filter_map (read_at (Log 1)) trace ≡ block 0 4 ∷ block 0 4 ∷ [])
+blocks_read = (refl, refl)
 
 writes-counts : (block_writes (at 2) ≡ 0) × (block_writes (at 3) ≡ 1) × (block_writes trace ≡ 8)
 writes-counts = (refl, refl, refl)
