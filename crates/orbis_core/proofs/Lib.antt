@@ -1,5 +1,5 @@
 pub mod FlatLemmas
-mod FlatIdealLemmas
+pub mod FlatIdealLemmas
 mod IdealExamples
 pub mod ProcessorLemmas
 mod RowExamples

@@ -1,6 +1,6 @@
 -- The ideal machine: the processor on a flat memory, with no cache, tree, log, stamp or untrusted code, and words of some classes that come from outside.
-use Rattle.std.specs.Prelude.{◌≡◌, ℕ, ◌+◌, ◌-◌, ◌/◌, ◌%◌, ◌^◌, Bool, true, false, ◌==◌, ◌&&◌, nat_eq, nat_le, nat_lt, if◌then◌else◌, List, Option, Some, None, option_map, unwrap_or, replicate, slice_index}
-use Rattle.execution.specs.Run.{Next, Goes, Stops, and_then, run}
+use Rattle.std.specs.Prelude.{ℕ, ◌-◌, ◌/◌, ◌%◌, ◌^◌, Bool, true, false, ◌==◌, ◌&&◌, nat_eq, nat_le, nat_lt, if◌then◌else◌, List, Option, Some, None, option_map, unwrap_or, replicate, slice_index}
+use Rattle.execution.specs.Run.{Next, Goes, Stops, run}
 use Rattle.execution.specs.Traffic.{Entry, Traffic, traffic_from, input_word, after_input, loose_word, after_loose, after_release, after_write, after_check, after_suspension}
 use Rattle.orbis_word.specs.declared.Instr.{Instr}
 use Rattle.orbis_word.specs.Reading.{instruction_in}
@@ -155,15 +155,3 @@ ideal_start layout statics entry input loose =
 -- so many steps of the machine on an image, with these classes loose
 abbrev pub ideal_run : Layout → (Class → Bool) → List ℕ → ℕ → List ℕ → List (Entry ℕ) → ℕ → Next Ideal IdealEnd
 ideal_run layout loose statics entry input words steps = run (ideal_step layout loose) steps (ideal_start layout statics entry input words)
-
--- the state after m + n steps is the one after n steps from the one after m
-abbrev pub IdealRunsJoin : Type 0
-IdealRunsJoin =
-    (layout : Layout) (loose : Class → Bool) (m n : ℕ) (state : Ideal) →
-    run (ideal_step layout loose) (m + n) state ≡ and_then (run (ideal_step layout loose) m state) (run (ideal_step layout loose) n)
-
--- behind an end more steps change nothing
-abbrev pub IdealEndsStay : Type 0
-IdealEndsStay =
-    (layout : Layout) (loose : Class → Bool) (steps more : ℕ) (state at : Ideal) (end : IdealEnd) →
-    run (ideal_step layout loose) steps state ≡ Stops end at → run (ideal_step layout loose) (steps + more) state ≡ Stops end at

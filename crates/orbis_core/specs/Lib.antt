@@ -4,6 +4,7 @@ pub mod FlatIsIdeal
 pub mod FlatLaws
 pub mod FlatMemory
 pub mod Ideal
+pub mod IdealLaws
 pub mod Processor
 pub mod Refusals
 pub mod Rows
