@@ -18,9 +18,9 @@ shared = record { is_loose = is_open; is_noted = true }
 abbrev local : ℕ → Variable
 local token = record { token = token; class = None }
 
--- a program with one function, whose name is token 1
+-- a program with one function
 abbrev only_main : Stmt → Program
-only_main body = record { objects = []; functions = record { token = 1; parameters = []; body = body } ∷ []; main = 1 }
+only_main body = record { objects = []; functions = record { parameters = []; body = body } ∷ []; main = 0 }
 
 abbrev return_0 : Stmt
 return_0 = Return (Some (Number 0))
@@ -52,12 +52,11 @@ abbrev outside : Program
 outside = record {
   objects = record { variable = record { token = 1; class = Some Verified }; first = [] } ∷ [];
   functions = record {
-    token = 7;
     parameters = [];
     body = Then (Local (local 13) None) (Then (Assign (local 13) (Number 3)) (Then (Release (Number 65))
         (Then (Release (Indexed 27 (record { token = 1; class = Some Verified }) 3 (Scalar (local 13)))) return_0)));
   } ∷ [];
-  main = 7;
+  main = 0;
 }
 
 outside-end : ((mean plain outside [] [] 0).end ≡ Index 27) × ((mean plain outside [] [] 0).traffic.bytes ≡ 65 ∷ [])
@@ -90,8 +89,8 @@ word = record { token = 2; class = Some Open }
 abbrev waits : Program
 waits = record {
   objects = record { variable = word; first = [] } ∷ [];
-  functions = record { token = 12; parameters = []; body = Then Suspend (Then (Release (Scalar word)) return_0) } ∷ [];
-  main = 12;
+  functions = record { parameters = []; body = Then Suspend (Then (Release (Scalar word)) return_0) } ∷ [];
+  main = 0;
 }
 
 -- where nothing is loose, the shared word stays zero and no entry is taken
@@ -141,15 +140,13 @@ abbrev called : Program
 called = record {
   objects = [];
   functions = record {
-    token = 1;
     parameters = local 4 ∷ local 7 ∷ [];
     body = Then (Release (Scalar (local 4))) (Assign (local 7) (Number 1));
   } ∷ record {
-    token = 21;
     parameters = [];
-    body = Release (Either (Called 1 (Argument Input (Argument Input NoArguments))) (Both (Number 1) (Binary 44 DivU (Number 0) (Number 0))));
+    body = Release (Either (Called 0 (Argument Input (Argument Input NoArguments))) (Both (Number 1) (Binary 44 DivU (Number 0) (Number 0))));
   } ∷ [];
-  main = 21;
+  main = 1;
 }
 
 called-end : ((mean plain called (8 ∷ 9 ∷ []) [] 0).end ≡ Divide 44) × ((mean plain called (8 ∷ 9 ∷ []) [] 0).traffic.bytes ≡ 8 ∷ [])

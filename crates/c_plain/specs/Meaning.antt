@@ -1,5 +1,5 @@
 -- What a program does, by its structure, over variables and arrays of words.
-use Rattle.std.specs.Prelude.{ℕ, zero, suc, cond, not, ◌==◌, List, [], ◌∷◌, Option, Some, None, slice_index}
+use Rattle.std.specs.Prelude.{ℕ, zero, suc, ◌+◌, cond, not, ◌==◌, List, [], ◌∷◌, Option, Some, None, slice_index}
 use Rattle.execution.specs.Traffic.{Entry, Traffic, traffic_from, after_check, after_suspension}
 use Rattle.aegis_num.specs.Operators.{truth, unary}
 use Rattle.c_plain.specs.Tree.{Variable, Element, Expr, Number, Scalar, Indexed, Called, Input, Unary, Binary, Both, Either, Arguments, NoArguments, Argument, Stmt, Nothing, Then, Empty, Block, Local, Assign, Store, Call, Suspend, Release, Check, Return, Break, Continue, If, While, For, Function, Object, Program}
@@ -17,7 +17,7 @@ pub data Turn : Type 0 where
   Again : Turn
   Leaves : Flow → Turn
 
--- what a call of a function does, by the token of the function and its arguments
+-- what a call of a function does, by its number and its arguments
 abbrev pub Calls : Type 0
 Calls = ℕ → List ℕ → State → Outcome ℕ
 
@@ -139,18 +139,22 @@ abbrev pub called : Setting → Calls → Function → List ℕ → State → Ou
 called setting calls f words state =
     then (meaning setting calls f.body (given setting f.parameters words (tick setting state))) (λ flow s. GoesOn (result_of flow) s)
 
--- one function more can be called; its body calls those before it
-abbrev pub with_function : Setting → Calls → Function → Calls
-with_function setting calls f function words state = choose (f.token == function) (called setting calls f words) (calls function words) state
+-- one function more, with this number, can be called; its body calls those before it
+abbrev pub with_function : Setting → Calls → ℕ → Function → Calls
+with_function setting calls number f function words state = choose (number == function) (called setting calls f words) (calls function words) state
 
 -- there is no function yet
 abbrev pub no_calls : Calls
 no_calls function words state = GoesOn 0 state
 
--- the calls of these functions, each behind those that it can call
-abbrev pub calls_of : Setting → Calls → List Function → Calls
-calls_of setting calls [] = calls
-calls_of setting calls (f ∷ functions) = calls_of setting (with_function setting calls f) functions
+-- the calls of these functions, each behind those that it can call, where the first has this number
+abbrev pub calls_from : Setting → Calls → ℕ → List Function → Calls
+calls_from setting calls number [] = calls
+calls_from setting calls number (f ∷ functions) = calls_from setting (with_function setting calls number f) (number + 1) functions
+
+-- the calls of the functions of a program
+abbrev pub calls_of : Setting → List Function → Calls
+calls_of setting functions = calls_from setting no_calls 0 functions
 
 -- the words that the objects start with, and zeros
 abbrev pub first_memory : List Object → ℕ → ℕ → ℕ
@@ -179,7 +183,7 @@ first_state program input loose turns = record {
 -- what main comes to on this input and these loose words, with at most so many loop turns in all
 abbrev pub outcome_of : Setting → Program → List ℕ → List (Entry Element) → ℕ → Outcome ℕ
 outcome_of setting program input loose turns =
-    calls_of setting no_calls program.functions program.main [] (first_state program input loose turns)
+    calls_of setting program.functions program.main [] (first_state program input loose turns)
 
 -- the meaning of a program
 abbrev pub mean : Setting → Program → List ℕ → List (Entry Element) → ℕ → Meaning

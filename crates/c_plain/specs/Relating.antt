@@ -6,7 +6,7 @@ use Rattle.aegis_num.specs.declared.operators.BinaryOp.{BinaryOp}
 use Rattle.aegis_num.specs.Operators.{truth, unary, binary, traps}
 use Rattle.c_plain.specs.Tree.{Variable, Expr, Number, Scalar, Indexed, Called, Input, Unary, Binary, Both, Either, Arguments, NoArguments, Argument, Stmt, Nothing, Then, Empty, Block, Local, Assign, Store, Call, Suspend, Release, Check, Return, Break, Continue, If, While, For, Function}
 use Rattle.c_plain.specs.States.{Setting, State, End, Index, Divide, Starved, Turns, Outcome, GoesOn, EndsAs, then, choose, is_same_element, is_in, element_of, kept, loosely, tick, with_traffic, noting, read, write, within, applied, taking_input, releasing, begin_turn}
-use Rattle.c_plain.specs.Meaning.{Flow, Next, Broke, Continued, Returned, Turn, Again, Leaves, Calls, value, values, value_or_zero, condition, behind, behind_body, turn, behind_turn, iterate, loop, next, meaning, result_of, given, called, with_function, no_calls, calls_of}
+use Rattle.c_plain.specs.Meaning.{Flow, Next, Broke, Continued, Returned, Turn, Again, Leaves, Calls, value, values, value_or_zero, condition, behind, behind_body, turn, behind_turn, iterate, loop, next, meaning, result_of, given, called, with_function, no_calls, calls_from, calls_of}
 
 -- how two outcomes are alike: the same value or end and states in relation, or the first has used its turns and the second has gone on from there
 abbrev pub Alike : {A : Type 0} → (State → State → Type 0) → (State → State → Type 0) → Outcome A → Outcome A → Type 0
@@ -399,26 +399,26 @@ module _ (is_loose : Class → Bool) (noted noted' : Bool) (more : ℕ) (R C P :
     pair-called f words =
         pair-tick _ _ (pair-then _ _ _ _ (pair-given f.parameters words _ _ (pair-meaning f.body)) (λ flow. pair-goes (result_of flow)))
 
-    pair-with_function : (f : Function) → Same (with_function first calls f) (with_function second calls' f)
-    pair-with_function f = record {
-      each = λ function words. pair-choose (f.token == function) _ _ _ _ (pair-called f words) (same.each function words);
+    pair-with_function : (number : ℕ) (f : Function) → Same (with_function first calls number f) (with_function second calls' number f)
+    pair-with_function number f = record {
+      each = λ function words. pair-choose (number == function) _ _ _ _ (pair-called f words) (same.each function words);
     }
 
   -- the calls of the functions of a program
-  pair-calls_of : (functions : List Function) (calls calls' : Calls) → Same calls calls' → Same (calls_of first calls functions) (calls_of second calls' functions)
-  pair-calls_of [] calls calls' same = same
-  pair-calls_of (f ∷ functions) calls calls' same = pair-calls_of functions _ _ (pair-with_function calls calls' same f)
+  pair-calls_from : (functions : List Function) (number : ℕ) (calls calls' : Calls) → Same calls calls' → Same (calls_from first calls number functions) (calls_from second calls' number functions)
+  pair-calls_from [] number calls calls' same = same
+  pair-calls_from (f ∷ functions) number calls calls' same = pair-calls_from functions (number + 1) _ _ (pair-with_function calls calls' same number f)
 
-  pair-program : (functions : List Function) → Same (calls_of first no_calls functions) (calls_of second no_calls functions)
-  pair-program functions = pair-calls_of functions no_calls no_calls (record { each = λ function words. pair-goes 0 })
+  pair-program : (functions : List Function) → Same (calls_of first functions) (calls_of second functions)
+  pair-program functions = pair-calls_from functions 0 no_calls no_calls (record { each = λ function words. pair-goes 0 })
 
   -- what the law is used for: the outcomes of a program are alike, and the second run keeps what each thing keeps
   pub alike-program : (functions : List Function) (main : ℕ) (s s' : State) → R s s' →
-      Alike R C (calls_of first no_calls functions main [] s) (calls_of second no_calls functions main [] s')
+      Alike R C (calls_of first functions main [] s) (calls_of second functions main [] s')
   alike-program functions main s s' r = ((pair-program functions).each main []).alike s s' r
 
-  pub keeps-program : (functions : List Function) (main : ℕ) (s' : State) → Holds (λ v t u. P t u) F s' (calls_of second no_calls functions main [] s')
+  pub keeps-program : (functions : List Function) (main : ℕ) (s' : State) → Holds (λ v t u. P t u) F s' (calls_of second functions main [] s')
   keeps-program functions main s' = ((pair-program functions).each main []).keeps s'
 
-  pub keeps-statement : (functions : List Function) (st : Stmt) (s' : State) → Holds (λ v t u. P t u) F s' (meaning second (calls_of second no_calls functions) st s')
+  pub keeps-statement : (functions : List Function) (st : Stmt) (s' : State) → Holds (λ v t u. P t u) F s' (meaning second (calls_of second functions) st s')
   keeps-statement functions st s' = (pair-meaning _ _ (pair-program functions) st).keeps s'

@@ -1,5 +1,5 @@
--- Programs whose names are resolved. A variable or a function is named by the token of its declaration, and each operator
--- has the types of its operands. Parentheses are gone.
+-- Programs whose names are resolved. A variable is named by the token of its declaration, a function by its number among the
+-- functions of the source, from 0, and each operator has the types of its operands. Parentheses are gone.
 use Rattle.std.specs.Prelude.{ℕ, List, Option}
 use Rattle.aegis_num.specs.declared.operators.BinaryOp.{BinaryOp}
 use Rattle.aegis_num.specs.declared.operators.UnaryOp.{UnaryOp}
@@ -58,7 +58,6 @@ pub data Stmt : Type 0 where
   For : (first : Stmt) (test : Option Expr) (step body : Stmt) → Stmt
 
 pub record Function : Type 0 where
-  pub token : ℕ
   pub parameters : List Variable
   pub body : Stmt
 
@@ -71,5 +70,5 @@ pub record Object : Type 0 where
 pub record Program : Type 0 where
   pub objects : List Object
   pub functions : List Function
-  -- the function that a run starts with
+  -- the number of the function that a run starts with
   pub main : ℕ
