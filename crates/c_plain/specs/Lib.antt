@@ -4,3 +4,5 @@ pub mod Meaning
 pub mod Relating
 pub mod States
 pub mod Tree
+pub mod ViewForms
+pub mod Views

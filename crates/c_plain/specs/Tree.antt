@@ -3,12 +3,7 @@
 use Rattle.std.specs.Prelude.{ℕ, List, Option}
 use Rattle.aegis_num.specs.declared.operators.BinaryOp.{BinaryOp}
 use Rattle.aegis_num.specs.declared.operators.UnaryOp.{UnaryOp}
-use Rattle.regions.specs.declared.rights.Class.{Class}
-
--- a variable or an array, with its class where it is global; a local or a parameter has none
-pub record Variable : Type 0 where
-  pub token : ℕ
-  pub class : Option Class
+use Rattle.c_plain.specs.declared.tree.Variable.{Variable}
 
 -- an element of a variable or an array; a variable that is no array has the one element 0
 pub record Element : Type 0 where
