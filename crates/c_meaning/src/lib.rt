@@ -1,0 +1,5 @@
+//! The meaning of programs of the source language, computed: a direct evaluator.
+#![tactic(auto)]
+
+mod fault;
+mod machine;

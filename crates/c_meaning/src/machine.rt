@@ -1,0 +1,114 @@
+//! What an evaluation keeps.
+ghost use Rattle.std.specs.Prelude.{◌≡◌, ℕ, ◌<◌, [], length, slice_index, OnOk};
+ghost use Rattle.execution.specs.Traffic.{next_of};
+ghost use Rattle.c_plain.specs.States.{Outcome, GoesOn, taking_input, releasing, begin_turn, write};
+ghost use Rattle.c_meaning.specs.Seen.{bare, memory_of, seen, Does};
+
+use crate::fault::Fault;
+use c_plain::Variable;
+use sqlite_items::Items;
+use std::alloc::{AllocError, Global};
+
+/// The words of the variables by the tokens of their declarations, as far as they were written; the turns that may still
+/// begin; the input, and how much of it was read; and the bytes that were released.
+#[derive(Drop)]
+pub struct Machine {
+    alloc: Global,
+    variables: Vec<Items<u32>>,
+    turns: u64,
+    input: Vec<u8>,
+    next: usize,
+    released: Vec<u8>,
+}
+
+impl Machine {
+    /// The word of an element of a variable.
+    #[tactic(auto, using(crate::proofs::Lookups::lookups))]
+    pub fn read(&self, token: u32, index: u32) -> u32
+        ensures { result ≡ (seen self.now).memory token index }
+    {
+        match self.variables.get(token as usize) {
+            None => 0,
+            Some(words) => word_at(words, index),
+        }
+    }
+
+    /// The next byte of the input, or -1 behind the last one.
+    pub fn take_input(&mut self) -> u32
+        ensures { taking_input (seen self.old) ≡ GoesOn result (seen self.new) }
+    {
+        match self.input.get(self.next) {
+            None => 0xffff_ffff,
+            Some(byte) => {
+                let byte = *byte;
+                self.next += 1;
+                byte as u32
+            }
+        }
+    }
+
+    /// An element of a variable gets a word.
+    pub fn write(&mut self, variable: Variable, index: u32, word: u32) -> Result<(), Fault>
+        ensures { OnOk result (seen self.new ≡ write bare variable index word (seen self.old)) }
+    {
+        make_variable(self.alloc, &mut self.variables, variable.token)?;
+        let words = &mut self.variables[variable.token as usize];
+        make_word(words, index)?;
+        words.set(index as usize, word);
+        Ok(())
+    }
+
+    /// Releases the low eight bits of a word.
+    pub fn release(&mut self, word: u32) -> Result<(), Fault>
+        ensures { OnOk result (seen self.new ≡ releasing word (seen self.old)) }
+    {
+        self.released.push((word % 256) as u8)?;
+        Ok(())
+    }
+
+    /// A loop turn begins, if one may still begin.
+    pub fn begin_turn(&mut self) -> Result<u64, Fault>
+        ensures begun { Does (begin_turn bare self.old.turns (seen self.old)) result (seen self.new) }
+    {
+        if self.turns == 0 {
+            return Err(Fault::Turns);
+        }
+        self.turns -= 1;
+        Ok(self.turns)
+    }
+}
+
+/// A word of a list, or zero behind its end.
+#[tactic(auto, using(crate::proofs::Lookups::lookups))]
+fn word_at(words: &Items<u32>, index: u32) -> u32
+    ensures { result ≡ slice_index words.now index }
+{
+    match words.get(index as usize) {
+        None => 0,
+        Some(word) => *word,
+    }
+}
+
+/// Makes a list at least so long that it has this index.
+#[tactic(auto, using(crate::proofs::Lookups::growths))]
+fn make_word(words: &mut Items<u32>, index: u32) -> Result<(), AllocError>
+    ensures same { (i : ℕ) → slice_index words.new i ≡ slice_index words.old i }
+    ensures there { OnOk result (index < length words.new) }
+{
+    while words.len() <= index as usize {
+        words.push(0)?;
+    }
+    Ok(())
+}
+
+/// Makes a list of lists at least so long that it has this index.
+#[tactic(auto, using(crate::proofs::Lookups::growths))]
+fn make_variable(alloc: Global, variables: &mut Vec<Items<u32>>, token: u32) -> Result<(), AllocError>
+    ensures same { (x i : ℕ) → memory_of variables.new.items x i ≡ memory_of variables.old.items x i }
+    ensures there { OnOk result (token < length variables.new.items) }
+{
+    while variables.len() <= token as usize {
+        variables.push(Items::new(alloc))?;
+    }
+    Ok(())
+}
