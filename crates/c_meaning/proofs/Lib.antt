@@ -1,1 +1,6 @@
 pub mod Lookups
+pub mod Sizes
+pub mod Given
+pub mod Callable
+pub mod Forms
+pub mod Ends

@@ -1,5 +1,5 @@
 -- Reading lists behind their ends.
-use Rattle.std.proofs.Common.{◌≡◌, ℕ, zero, suc, ◌+◌, ◌<◌, ◌≤◌, List, [], ◌∷◌, ◌++◌, length, slice_index, slice_index_or, slice_set, cond, ◌==◌, ◌&&◌, Bool, true, false, ◌⊎◌, inl, inr, sym, ◌∙◌, ap, Option, Some, None, arith, refl}
+use Rattle.std.proofs.Common.{◌≡◌, ℕ, zero, suc, ◌<◌, List, [], ◌∷◌, ◌++◌, length, slice_index, slice_index_or, slice_set, cond, ◌==◌, ◌&&◌, Bool, true, false, inl, inr, sym, ◌∙◌, ap, Some, None, arith, refl}
 use Rattle.std.proofs.lemmas.Bool.{cases_eq}
 use Rattle.std.proofs.lemmas.Bool.Decides.{nat_tests}
 use Rattle.std.proofs.lemmas.List.{get_or-set_other}

@@ -1,9 +1,14 @@
 -- What the evaluator keeps, as a state of the meaning in which nothing is noted.
-use Rattle.std.specs.Prelude.{ℕ, ◌≡◌, Bool, true, false, List, [], length, slice_index, slice_index_or, drop, Ok, Err}
+use Rattle.std.specs.Prelude.{ℕ, ◌≡◌, false, List, [], length, slice_index, slice_index_or, drop, Ok, Err}
 use Rattle.std.specs.declared.result.Result.{Result}
-use Rattle.c_plain.specs.Tree.{Element}
-use Rattle.c_plain.specs.States.{State, Setting, Outcome, GoesOn, EndsAs, End, Index, Divide, Turns}
+use Rattle.c_plain.specs.States.{State, Setting, Outcome, GoesOn, EndsAs, Index, Divide, Turns}
 use Rattle.c_meaning.specs.declared.machine.Machine.{Machine}
+use Rattle.c_plain.specs.Meaning
+use Rattle.std.proofs.Common.{Vec, Global}
+use Rattle.c_meaning.specs.declared.flow.Flow.{Flow}
+use Rattle.c_meaning.specs.declared.flow.Flow.TheVariants as flow
+use Rattle.c_meaning.specs.declared.flow.Turn.{Turn}
+use Rattle.c_meaning.specs.declared.flow.Turn.TheVariants as turn
 use Rattle.c_meaning.specs.declared.fault.Fault.{Fault}
 use Rattle.c_meaning.specs.declared.fault.Fault.TheVariants as fault
 
@@ -33,10 +38,38 @@ seen m = record {
   };
 }
 
--- The evaluator does what the meaning says: it goes on with the value, or ends as it does. Where memory ran out nothing is said.
-abbrev pub Does : {A : Type 0} → Outcome A → Result A Fault → State → Type 0
-Does outcome (Ok value) state = outcome ≡ GoesOn value state
-Does outcome (Err (fault.Index at)) state = outcome ≡ EndsAs (Index at) state
-Does outcome (Err (fault.Divide at)) state = outcome ≡ EndsAs (Divide at) state
-Does outcome (Err fault.Turns) state = outcome ≡ EndsAs Turns state
-Does outcome (Err fault.OutOfMemory) state = Unit {0}
+-- The evaluator does what the meaning says: it goes on with the value, as it is seen, or ends as it does. Where memory ran out
+-- nothing is said.
+abbrev pub DoesAs : {A B : Type 0} → (B → A) → Outcome A → Result B Fault → State → Type 0
+DoesAs view outcome (Ok value) state = outcome ≡ GoesOn (view value) state
+DoesAs view outcome (Err (fault.Index at)) state = outcome ≡ EndsAs (Index at) state
+DoesAs view outcome (Err (fault.Divide at)) state = outcome ≡ EndsAs (Divide at) state
+DoesAs view outcome (Err fault.Turns) state = outcome ≡ EndsAs Turns state
+DoesAs view outcome (Err fault.OutOfMemory) state = Unit {0}
+
+-- the same, of a word
+abbrev pub Does : Outcome ℕ → Result ℕ Fault → State → Type 0
+Does outcome result state = DoesAs (λ word. word) outcome result state
+
+-- the same, of words
+abbrev pub DoesWords : Outcome (List ℕ) → Result (Vec ℕ Global) Fault → State → Type 0
+DoesWords outcome result state = DoesAs (λ (words : Vec ℕ Global). words.items) outcome result state
+
+-- how a statement is left
+abbrev pub flow_of : Flow → Meaning.Flow
+flow_of flow.Next = Meaning.Next
+flow_of flow.Broke = Meaning.Broke
+flow_of flow.Continued = Meaning.Continued
+flow_of (flow.Returned value) = Meaning.Returned value
+
+abbrev pub turn_of : Turn → Meaning.Turn
+turn_of turn.Again = Meaning.Again
+turn_of (turn.Leaves flow) = Meaning.Leaves (flow_of flow)
+
+-- the same, of a statement
+abbrev pub DoesFlow : Outcome Meaning.Flow → Result Flow Fault → State → Type 0
+DoesFlow outcome result state = DoesAs flow_of outcome result state
+
+-- the same, of a turn
+abbrev pub DoesTurn : Outcome Meaning.Turn → Result Turn Fault → State → Type 0
+DoesTurn outcome result state = DoesAs turn_of outcome result state

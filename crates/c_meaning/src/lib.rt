@@ -1,5 +1,7 @@
 //! The meaning of programs of the source language, computed: a direct evaluator.
 #![tactic(auto)]
 
+mod evaluate;
 mod fault;
+mod flow;
 mod machine;

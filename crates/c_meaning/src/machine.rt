@@ -1,7 +1,7 @@
 //! What an evaluation keeps.
-ghost use Rattle.std.specs.Prelude.{◌≡◌, ℕ, ◌<◌, [], length, slice_index, OnOk};
+ghost use Rattle.std.specs.Prelude.{◌≡◌, ℕ, ◌<◌, [], length, slice_index, OnOk, IfErr};
 ghost use Rattle.execution.specs.Traffic.{next_of};
-ghost use Rattle.c_plain.specs.States.{Outcome, GoesOn, taking_input, releasing, begin_turn, write};
+ghost use Rattle.c_plain.specs.States.{Outcome, GoesOn, taking_input, releasing, begin_turn, within, write};
 ghost use Rattle.c_meaning.specs.Seen.{bare, memory_of, seen, Does};
 
 use crate::fault::Fault;
@@ -22,6 +22,18 @@ pub struct Machine {
 }
 
 impl Machine {
+    /// Where memory comes from.
+    pub fn alloc(&self) -> Global {
+        self.alloc
+    }
+
+    /// How many turns may still begin.
+    pub fn turns(&self) -> u64
+        ensures { result ≡ (seen self.now).turns }
+    {
+        self.turns
+    }
+
     /// The word of an element of a variable.
     #[tactic(auto, using(crate::proofs::Lookups::lookups))]
     pub fn read(&self, token: u32, index: u32) -> u32
@@ -31,6 +43,16 @@ impl Machine {
             None => 0,
             Some(words) => word_at(words, index),
         }
+    }
+
+    /// An index has to be below the length. `at` is the token that the end is told by where it is not.
+    pub fn within(&self, at: u32, length: u32, index: u32) -> Result<u32, Fault>
+        ensures does { Does (within at length index (seen self.now)) result (seen self.now) }
+    {
+        if index < length {
+            return Ok(index);
+        }
+        Err(Fault::Index { at })
     }
 
     /// The next byte of the input, or -1 behind the last one.
@@ -49,7 +71,8 @@ impl Machine {
 
     /// An element of a variable gets a word.
     pub fn write(&mut self, variable: Variable, index: u32, word: u32) -> Result<(), Fault>
-        ensures { OnOk result (seen self.new ≡ write bare variable index word (seen self.old)) }
+        ensures written { OnOk result (seen self.new ≡ write bare variable index word (seen self.old)) }
+        ensures err { IfErr result (λ fault. fault ≡ Fault.OutOfMemory) }
     {
         make_variable(self.alloc, &mut self.variables, variable.token)?;
         let words = &mut self.variables[variable.token as usize];
@@ -60,7 +83,8 @@ impl Machine {
 
     /// Releases the low eight bits of a word.
     pub fn release(&mut self, word: u32) -> Result<(), Fault>
-        ensures { OnOk result (seen self.new ≡ releasing word (seen self.old)) }
+        ensures released { OnOk result (seen self.new ≡ releasing word (seen self.old)) }
+        ensures err { IfErr result (λ fault. fault ≡ Fault.OutOfMemory) }
     {
         self.released.push((word % 256) as u8)?;
         Ok(())
@@ -103,7 +127,11 @@ fn make_word(words: &mut Items<u32>, index: u32) -> Result<(), AllocError>
 
 /// Makes a list of lists at least so long that it has this index.
 #[tactic(auto, using(crate::proofs::Lookups::growths))]
-fn make_variable(alloc: Global, variables: &mut Vec<Items<u32>>, token: u32) -> Result<(), AllocError>
+fn make_variable(
+    alloc: Global,
+    variables: &mut Vec<Items<u32>>,
+    token: u32,
+) -> Result<(), AllocError>
     ensures same { (x i : ℕ) → memory_of variables.new.items x i ≡ memory_of variables.old.items x i }
     ensures there { OnOk result (token < length variables.new.items) }
 {

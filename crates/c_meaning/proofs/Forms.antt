@@ -1,0 +1,6 @@
+-- The forms of expressions and statements that hold lists.
+use Rattle.c_plain.specs.ViewForms.{expr_of-Called, stmt_of-Block}
+
+pub ruleset called_form = (expr_of-Called)
+
+pub ruleset block_form = (stmt_of-Block)

@@ -1,0 +1,23 @@
+//! How statements and turns of loops are left.
+
+/// How a statement is left.
+#[derive(Clone, Copy, Debug, PartialEq, Eq)]
+pub enum Flow {
+    /// For the next one.
+    Next,
+    /// By `break`.
+    Broke,
+    /// By `continue`.
+    Continued,
+    /// By `return`, with a value.
+    Returned(u32),
+}
+
+/// What stands behind a turn of a loop.
+#[derive(Clone, Copy, Debug, PartialEq, Eq)]
+pub enum Turn {
+    /// Another turn, if its condition holds.
+    Again,
+    /// What stands behind the loop.
+    Leaves(Flow),
+}
