@@ -4,3 +4,4 @@ pub mod Given
 pub mod Callable
 pub mod Forms
 pub mod Ends
+pub mod Started

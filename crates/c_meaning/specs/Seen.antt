@@ -1,14 +1,20 @@
 -- What the evaluator keeps, as a state of the meaning in which nothing is noted.
-use Rattle.std.specs.Prelude.{ℕ, ◌≡◌, false, List, [], length, slice_index, slice_index_or, drop, Ok, Err}
+use Rattle.std.specs.Prelude.{ℕ, ◌≡◌, false, List, [], length, slice_index, slice_index_or, drop, cond, ◌==◌, Ok, Err, IsErr}
 use Rattle.std.specs.declared.result.Result.{Result}
-use Rattle.c_plain.specs.States.{State, Setting, Outcome, GoesOn, EndsAs, Index, Divide, Turns}
+use Rattle.aegis_num.specs.declared.memory.OutOfMemory.{OutOfMemory}
+use Rattle.c_plain.specs.States.{State, Setting, Outcome, GoesOn, EndsAs, End, Ended, Index, Divide, Turns}
 use Rattle.c_meaning.specs.declared.machine.Machine.{Machine}
+use Rattle.execution.specs.Traffic.{traffic_from}
+use Rattle.c_plain.specs.Tree
 use Rattle.c_plain.specs.Meaning
+use Rattle.c_plain.specs.Meaning.{no_class, first_memory}
 use Rattle.std.proofs.Common.{Vec, Global}
 use Rattle.c_meaning.specs.declared.flow.Flow.{Flow}
 use Rattle.c_meaning.specs.declared.flow.Flow.TheVariants as flow
 use Rattle.c_meaning.specs.declared.flow.Turn.{Turn}
 use Rattle.c_meaning.specs.declared.flow.Turn.TheVariants as turn
+use Rattle.c_meaning.specs.declared.mean_end.MeanEnd.{MeanEnd}
+use Rattle.c_meaning.specs.declared.mean_end.MeanEnd.TheVariants as mean
 use Rattle.c_meaning.specs.declared.fault.Fault.{Fault}
 use Rattle.c_meaning.specs.declared.fault.Fault.TheVariants as fault
 
@@ -18,7 +24,7 @@ memory_of variables x i = slice_index (slice_index_or variables x []) i
 
 -- nothing is loose, and nothing is noted
 abbrev pub bare : Setting
-bare = record { is_loose = λ class. false; is_noted = false }
+bare = record { is_loose = no_class; is_noted = false }
 
 -- what a machine keeps, as a state
 abbrev pub seen : Machine → State
@@ -37,6 +43,14 @@ seen m = record {
     suspensions = 0;
   };
 }
+
+-- before the first step
+abbrev pub started : List Tree.Object → List ℕ → ℕ → State
+started objects input turns = record { memory = first_memory objects; turns = turns; work = 0; traffic = traffic_from input [] }
+
+-- the state with other words of one variable
+abbrev pub placed : ℕ → List ℕ → State → State
+placed token words s = record s { memory = λ x i. cond (token == x) (slice_index words i) (s.memory x i) }
 
 -- The evaluator does what the meaning says: it goes on with the value, as it is seen, or ends as it does. Where memory ran out
 -- nothing is said.
@@ -73,3 +87,18 @@ DoesFlow outcome result state = DoesAs flow_of outcome result state
 -- the same, of a turn
 abbrev pub DoesTurn : Outcome Meaning.Turn → Result Turn Fault → State → Type 0
 DoesTurn outcome result state = DoesAs turn_of outcome result state
+
+-- how a run ends
+abbrev pub end_of : MeanEnd → End
+end_of mean.Ended = Ended
+end_of (mean.Index at) = Index at
+end_of (mean.Divide at) = Divide at
+end_of mean.Turns = Turns
+
+-- how the answer of main tells the end of the run
+abbrev pub EndsSo : Result ℕ Fault → Result MeanEnd OutOfMemory → Type 0
+EndsSo (Ok value) answer = answer ≡ Ok mean.Ended
+EndsSo (Err (fault.Index at)) answer = answer ≡ Ok (mean.Index at)
+EndsSo (Err (fault.Divide at)) answer = answer ≡ Ok (mean.Divide at)
+EndsSo (Err fault.Turns) answer = answer ≡ Ok mean.Turns
+EndsSo (Err fault.OutOfMemory) answer = IsErr answer

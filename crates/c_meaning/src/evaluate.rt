@@ -51,9 +51,9 @@ pub fn value_of(machine: &mut Machine, functions: &[Function], e: &Expr) -> Resu
             left,
             right,
         } => {
-            let left = value_of(machine, functions, left.get())?;
-            let right = value_of(machine, functions, right.get())?;
-            applied(*at, *op, left, right)
+            let first = value_of(machine, functions, left.get())?;
+            let second = value_of(machine, functions, right.get())?;
+            applied(*at, *op, first, second)
         }
         Expr::Both { left, right } => {
             let left = value_of(machine, functions, left.get())?;
@@ -134,8 +134,8 @@ fn statement(machine: &mut Machine, functions: &[Function], s: &Stmt) -> Result<
         Stmt::Empty => Ok(Flow::Next),
         Stmt::Block { body } => statements(machine, functions, body.as_slice()),
         Stmt::Local { variable, value } => {
-            let word = value_or_zero(machine, functions, value)?;
-            machine.write(*variable, 0, word)?;
+            let first = value_or_zero(machine, functions, value)?;
+            machine.write(*variable, 0, first)?;
             Ok(Flow::Next)
         }
         Stmt::Assign { variable, value } => {
@@ -151,9 +151,9 @@ fn statement(machine: &mut Machine, functions: &[Function], s: &Stmt) -> Result<
             value,
         } => {
             let index = value_of(machine, functions, index)?;
-            let index = machine.within(*at, *length, index)?;
-            let word = value_of(machine, functions, value)?;
-            machine.write(*array, index, word)?;
+            let place = machine.within(*at, *length, index)?;
+            let stored = value_of(machine, functions, value)?;
+            machine.write(*array, place, stored)?;
             Ok(Flow::Next)
         }
         Stmt::Call {

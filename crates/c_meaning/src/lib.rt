@@ -5,3 +5,11 @@ mod evaluate;
 mod fault;
 mod flow;
 mod machine;
+mod mean_end;
+mod run;
+
+pub use mean_end::MeanEnd;
+pub use run::mean_resolved;
+
+#[cfg(test)]
+mod tests;

@@ -1,11 +1,12 @@
 //! What an evaluation keeps.
-ghost use Rattle.std.specs.Prelude.{◌≡◌, ℕ, ◌<◌, [], length, slice_index, OnOk, IfErr};
+ghost use Rattle.std.specs.Prelude.{◌≡◌, ℕ, ◌<◌, [], length, slice_index, OnOk, IfErr, IfOk};
 ghost use Rattle.execution.specs.Traffic.{next_of};
 ghost use Rattle.c_plain.specs.States.{Outcome, GoesOn, taking_input, releasing, begin_turn, within, write};
-ghost use Rattle.c_meaning.specs.Seen.{bare, memory_of, seen, Does};
+ghost use Rattle.c_plain.specs.Views.{objects_of};
+ghost use Rattle.c_meaning.specs.Seen.{bare, memory_of, placed, seen, started, Does};
 
 use crate::fault::Fault;
-use c_plain::Variable;
+use c_plain::{Object, Variable};
 use sqlite_items::Items;
 use std::alloc::{AllocError, Global};
 
@@ -22,6 +23,50 @@ pub struct Machine {
 }
 
 impl Machine {
+    /// Before the first step: the objects have the words that they start with.
+    pub fn new(
+        alloc: Global,
+        objects: &[Object],
+        input: &[u8],
+        turns: u64,
+    ) -> Result<Machine, AllocError>
+        ensures { IfOk result (λ m. seen m ≡ started (objects_of objects.now) input.now turns) }
+    {
+        let mut machine = Machine {
+            alloc,
+            variables: Vec::new(alloc),
+            turns,
+            input: Vec::from_slice(alloc, input)?,
+            next: 0,
+            released: Vec::new(alloc),
+        };
+        let mut left = objects.len();
+        while 0 < left {
+            left -= 1;
+            machine.place(&objects[left])?;
+        }
+        Ok(machine)
+    }
+
+    /// An object gets the words that it starts with.
+    fn place(&mut self, object: &Object) -> Result<(), AllocError>
+        ensures { OnOk result (seen self.new ≡ placed object.now.variable.token object.now.first (seen self.old)) }
+    {
+        make_variable(self.alloc, &mut self.variables, object.variable.token)?;
+        self.variables[object.variable.token as usize] = Items::from_slice(
+            self.alloc,
+            object.first.as_slice(),
+        )?;
+        Ok(())
+    }
+
+    /// The bytes that were released.
+    pub fn released(&self) -> &[u8]
+        ensures { result.now ≡ (seen self.now).traffic.bytes }
+    {
+        self.released.as_slice()
+    }
+
     /// Where memory comes from.
     pub fn alloc(&self) -> Global {
         self.alloc

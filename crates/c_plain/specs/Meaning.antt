@@ -1,8 +1,9 @@
 -- What a program does, by its structure, over variables and arrays of words.
-use Rattle.std.specs.Prelude.{ℕ, zero, suc, ◌+◌, cond, not, ◌==◌, List, [], ◌∷◌, Option, Some, None, slice_index}
+use Rattle.std.specs.Prelude.{ℕ, zero, suc, ◌+◌, Bool, true, false, cond, not, ◌==◌, List, [], ◌∷◌, Option, Some, None, slice_index}
 use Rattle.execution.specs.Traffic.{Entry, Traffic, traffic_from, after_check, after_suspension}
 use Rattle.aegis_num.specs.Operators.{truth, unary}
 use Rattle.c_plain.specs.declared.tree.Variable.{Variable}
+use Rattle.regions.specs.declared.rights.Class.{Class}
 use Rattle.c_plain.specs.Tree.{Element, Expr, Number, Scalar, Indexed, Called, Input, Unary, Binary, Both, Either, Arguments, NoArguments, Argument, Stmt, Nothing, Then, Empty, Block, Local, Assign, Store, Call, Suspend, Release, Check, Return, Break, Continue, If, While, For, Function, Object, Program}
 use Rattle.c_plain.specs.States.{Setting, State, End, Ended, Turns, Outcome, GoesOn, EndsAs, then, choose, tick, noting, read, write, within, applied, taking_input, releasing, begin_turn}
 
@@ -189,3 +190,11 @@ outcome_of setting program input loose turns =
 -- the meaning of a program
 abbrev pub mean : Setting → Program → List ℕ → List (Entry Element) → ℕ → Meaning
 mean setting program input loose turns = meaning_of (outcome_of setting program input loose turns)
+
+-- no class is loose
+abbrev pub no_class : Class → Bool
+no_class class = false
+
+-- the meaning where no class is loose: shared variables are ordinary variables that start at zero
+abbrev pub mean_alone : Program → List ℕ → ℕ → Meaning
+mean_alone program input turns = mean (record { is_loose = no_class; is_noted = true }) program input [] turns
