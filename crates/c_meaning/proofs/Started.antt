@@ -1,5 +1,5 @@
 -- Objects get their words one by one, from the last one on.
-use Rattle.std.proofs.Common.{◌≡◌, ℕ, zero, suc, ◌+◌, ◌<◌, ◌≤◌, List, [], ◌∷◌, length, drop, slice_index_or, arith, refl}
+use Rattle.std.proofs.Common.{◌≡◌, ℕ, zero, suc, ◌<◌, ◌≤◌, List, [], ◌∷◌, length, drop, slice_index_or, arith, refl}
 use Rattle.c_plain.specs.declared.tree.Object.{Object}
 use Rattle.c_plain.specs.Views.{objects_of}
 use Rattle.c_meaning.specs.Seen.{placed, started}

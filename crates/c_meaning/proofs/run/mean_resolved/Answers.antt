@@ -1,8 +1,8 @@
 use Rattle.std.proofs.Common.{◌≡◌, ◌∙◌, ap, sym, subst, [], ◌++◌, Ok}
-use Rattle.c_plain.specs.Meaning.{outcome_of, mean_alone}
+use Rattle.c_plain.specs.Meaning.{outcome_of}
 use Rattle.c_plain.specs.Views.{objects_of, program_of}
 use Rattle.c_meaning.specs.Calls.{callable}
-use Rattle.c_meaning.specs.Seen.{bare, seen, started, Does, end_of, EndsSo}
+use Rattle.c_meaning.specs.Seen.{bare, seen, started, Does, EndsSo}
 use Rattle.c_meaning.proofs.Ends.{told}
 use Rattle.c_meaning.proofs.run.mean_resolved.Goals as goal
 

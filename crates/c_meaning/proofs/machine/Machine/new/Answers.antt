@@ -1,6 +1,6 @@
-use Rattle.std.proofs.Common.{◌≡◌, ◌∙◌, ap, ℕ, suc, ◌-◌, ◌<◌, length, drop, arith}
+use Rattle.std.proofs.Common.{◌≡◌, ◌∙◌, ap, suc, ◌-◌, ◌<◌, length, drop, arith}
 use Rattle.c_plain.specs.Views.{objects_of}
-use Rattle.c_meaning.specs.Seen.{seen, placed, started}
+use Rattle.c_meaning.specs.Seen.{placed, started}
 use Rattle.c_meaning.proofs.Started.{started-step}
 use Rattle.c_meaning.proofs.machine.Machine.new.Goals as goal
 
