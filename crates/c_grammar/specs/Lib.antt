@@ -1,0 +1,16 @@
+pub mod Tokens
+pub mod Signs
+pub mod Expressions
+pub mod Statements
+pub mod Programs
+pub mod Places
+pub mod Same
+pub mod Printed
+pub mod TreeLaws
+pub mod Alike
+pub mod AlikeExpressions
+pub mod AlikeStatements
+pub mod AlikePrograms
+pub mod AlikeKinds
+pub mod AlikePlaces
+pub mod PlaceLaws

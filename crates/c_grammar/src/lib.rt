@@ -1,0 +1,10 @@
+//! The grammar of the source language, and its programs as trees.
+#![tactic(auto)]
+
+mod expr;
+mod item;
+mod stmt;
+
+pub use expr::Expr;
+pub use item::{Item, Kind3, Parameter, Program, Storage, Value};
+pub use stmt::Stmt;
