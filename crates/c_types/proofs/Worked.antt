@@ -1,0 +1,63 @@
+-- The definitions on small programs.
+use Rattle.std.proofs.Common.{◌≡◌, ℕ, Bool, true, false, List, [], ◌∷◌, ◌++◌, codes, Some, None, refl}
+use Rattle.arrayvec.specs.ArrayString.{ArrayString}
+use Rattle.c_grammar.specs.declared.expr.Expr.{Expr}
+use Rattle.c_grammar.specs.declared.expr.Expr.TheVariants as expr
+use Rattle.c_grammar.specs.declared.stmt.Stmt.{Stmt}
+use Rattle.c_grammar.specs.declared.stmt.Stmt.TheVariants as stmt
+use Rattle.c_grammar.specs.declared.item.Kind3.TheVariants.{Int, Unsigned, Void}
+use Rattle.c_grammar.specs.declared.item.Storage.TheVariants.{Verified, Private, Shared, Logged}
+use Rattle.c_grammar.specs.declared.item.Item.{Item}
+use Rattle.c_grammar.specs.declared.item.Item.TheVariants as item
+use Rattle.c_grammar.specs.declared.item.Parameter.{Parameter}
+use Rattle.c_grammar.specs.declared.item.Program.{Program}
+use Rattle.c_types.specs.declared.declaration.Binding.{Binding}
+use Rattle.c_types.specs.declared.declaration.Entity.TheVariants.{Local, Object, Function}
+use Rattle.c_types.specs.declared.site.Home.{Home}
+use Rattle.c_types.specs.declared.site.How.TheVariants.{Value, Element, Assign, AssignElement, Call, CallValue}
+use Rattle.c_types.specs.declared.site.Site.{Site}
+use Rattle.c_types.specs.declared.site.Site.TheVariants as site
+use Rattle.c_types.specs.Sites.{expr_sites, item_sites, declaration_of, declarations_of}
+use Rattle.c_types.proofs.Equations.{expr_forms, stmt_forms}
+
+abbrev named : List ℕ → ArrayString
+named bytes = record { bytes = bytes; spare = [] }
+
+-- `int f(void){return f();}`
+abbrev self_call : Item
+self_call = item.Function false Int (named (codes "f")) [] (stmt.Return (Some (expr.Call (named (codes "f")) [] 7)) 6 ∷ []) 1
+
+self_call_sites : item_sites [] self_call ≡
+    site.Global 0 false 1
+    ∷ site.Return Int true 6
+    ∷ site.Use (CallValue 0) (Some (declaration_of self_call).binding) (record { private = false; result = Int; token = 1 }) 7
+    ∷ []
+self_call_sites = simp (expr_forms, stmt_forms)
+
+-- `int f(int a){int b=b;{int a;a=b;}for(int a=a;;)break;int a;c;}`, a local in its own value, a parameter hidden in a block and declared again
+-- in the outermost one, and the end of scopes
+abbrev scopes : Item
+scopes = item.Function false Int (named (codes "f")) (record { unsigned = false; name = named (codes "a"); token = 4 } ∷ [])
+    (stmt.Local false (named (codes "b")) (Some (expr.Name (named (codes "b")) 10)) 8
+    ∷ stmt.Block (stmt.Local false (named (codes "a")) None 14 ∷ stmt.Assign (named (codes "a")) None (expr.Name (named (codes "b")) 18) 16 ∷ []) 12
+    ∷ stmt.For (Some (stmt.Local false (named (codes "a")) (Some (expr.Name (named (codes "a")) 26)) 24)) None None (stmt.Break 30) 21
+    ∷ stmt.Local false (named (codes "a")) None 33
+    ∷ []) 1
+
+abbrev bound : ℕ → Binding
+bound token = record { token = token; entity = Local false }
+
+scopes_sites : item_sites [] scopes ≡
+    site.Global 0 false 1
+    ∷ site.Parameter 0 false 4
+    ∷ site.Local false 8
+    ∷ site.Use Value None (record { private = false; result = Int; token = 1 }) 10
+    ∷ site.Local false 14
+    ∷ site.Use Assign (Some (bound 14)) (record { private = false; result = Int; token = 1 }) 16
+    ∷ site.Use Value (Some (bound 8)) (record { private = false; result = Int; token = 1 }) 18
+    ∷ site.Local false 24
+    ∷ site.Use Value (Some (bound 4)) (record { private = false; result = Int; token = 1 }) 26
+    ∷ site.Jump true 30
+    ∷ site.Local true 33
+    ∷ []
+scopes_sites = simp (expr_forms, stmt_forms)

@@ -1,0 +1,109 @@
+-- What is known of a program that keeps the typing rules, and why one is refused.
+use Rattle.std.specs.Prelude.{◌≡◌, ℕ, ◌≤◌, Bool, true, false, not, ◌&&◌, ◌==◌, List, length, codes, Option, Some, None}
+use Rattle.std.specs.Str.{bytes_eq}
+use Rattle.std.specs.List.{list_any, filter_map}
+use Rattle.arrayvec.specs.ArrayString.{ArrayString}
+use Rattle.aegis_num.specs.declared.limits.TheConstants.{MAX_SOURCE_BYTES, MAX_PARAMETERS}
+use Rattle.c_token.specs.declared.kinds.Kind.{Kind}
+use Rattle.regions.specs.declared.rights.Class.{Class}
+use Rattle.regions.specs.declared.rights.Class.TheVariants as class
+use Rattle.c_grammar.specs.declared.item.Kind3.{Kind3}
+use Rattle.c_grammar.specs.declared.item.Kind3.TheVariants.{Int, Unsigned, Void}
+use Rattle.c_grammar.specs.declared.item.Item.{Item}
+use Rattle.c_grammar.specs.declared.item.Item.TheVariants as item
+use Rattle.c_grammar.specs.declared.item.Program.{Program}
+use Rattle.c_grammar.specs.Places.{Reads}
+use Rattle.c_types.specs.declared.error.TypeError.{TypeError}
+use Rattle.c_types.specs.declared.error.TypeError.TheVariants as error
+use Rattle.c_types.specs.declared.site.Rule.{Rule}
+use Rattle.c_types.specs.declared.site.Rule.TheVariants as rule
+use Rattle.c_types.specs.declared.checked.Object.{Object}
+use Rattle.c_types.specs.declared.checked.Function.{Function}
+use Rattle.c_types.specs.Sites.{class_of}
+use Rattle.c_types.specs.Rules.{Violates, IsFirst}
+
+-- the grammar gives the program to some tokens, at most as many as a source has bytes, and no level is above the limit
+abbrev pub IsRead : Program → Type 0
+IsRead p = (kinds : List Kind) × (length kinds ≤ MAX_SOURCE_BYTES) × Reads kinds p
+
+-- no rule is broken
+abbrev pub KeepsRules : Program → Type 0
+KeepsRules p = (at : ℕ) (rule : Rule) → Violates p at rule → ⊥
+
+abbrev pub is_int : Kind3 → Bool
+is_int Int = true
+is_int Unsigned = false
+is_int Void = false
+
+-- a function `main` that answers int, takes nothing and is not private
+abbrev pub is_main : Item → Bool
+is_main (item.Object class unsigned name length token) = false
+is_main (item.Constant unsigned name length values braces token) = false
+is_main (item.Untrusted name token) = false
+is_main (item.Function private result name parameters body token) =
+    bytes_eq name.bytes (codes "main") && is_int result && (length parameters == 0) && not private
+
+abbrev pub has_main : List Item → Bool
+has_main items = list_any is_main items
+
+-- the program keeps the typing rules, and has such a `main`
+pub record IsTyped (p : Program) : Type 0 where
+  pub rules : KeepsRules p
+  pub main : has_main p.items ≡ true
+
+-- an object or a constant
+abbrev pub object_of : Item → Option Object
+object_of (item.Object storage unsigned name length token) =
+    Some (record { name = name; class = class_of storage; unsigned = unsigned; length = length })
+object_of (item.Constant unsigned name length values braces token) =
+    Some (record { name = name; class = class.Constant; unsigned = unsigned; length = length })
+object_of (item.Untrusted name token) = None
+object_of (item.Function private result name parameters body token) = None
+
+-- the objects and constants of items, in order
+abbrev pub objects_of : List Item → List Object
+objects_of items = filter_map object_of items
+
+-- a function
+abbrev pub function_of : Item → Option Function
+function_of (item.Object storage unsigned name length token) = None
+function_of (item.Constant unsigned name length values braces token) = None
+function_of (item.Untrusted name token) =
+    Some (record { name = name; private = false; untrusted = true; result = Void; parameters = 0 })
+function_of (item.Function private result name parameters body token) =
+    Some (record { name = name; private = private; untrusted = false; result = result; parameters = length parameters })
+
+-- the functions of items, in order
+abbrev pub functions_of : List Item → List Function
+functions_of items = filter_map function_of items
+
+-- a function has no more parameters than the limit
+abbrev pub HasFewParameters : Item → Type 0
+HasFewParameters (item.Object storage unsigned name length token) = Unit {0}
+HasFewParameters (item.Constant unsigned name length values braces token) = Unit {0}
+HasFewParameters (item.Untrusted name token) = Unit {0}
+HasFewParameters (item.Function private result name parameters body token) = length parameters ≤ MAX_PARAMETERS
+
+-- the error of a rule that is broken at a token
+abbrev pub error_at : ℕ → Rule → TypeError
+error_at at rule.Unknown = error.Unknown at
+error_at at rule.Twice = error.Twice at
+error_at at rule.Recursive = error.Recursive at
+error_at at rule.Class = error.Class at
+error_at at rule.Shape = error.Shape at
+error_at at rule.Arity = error.Arity at
+error_at at rule.TooLong = error.TooLong at
+error_at at rule.TooMany = error.TooMany at
+
+-- Why a program is refused: its first violation, or no `main`. Of want of memory nothing is said.
+abbrev pub IsRefused : Program → TypeError → Type 0
+IsRefused p (error.Unknown at) = IsFirst p at rule.Unknown
+IsRefused p (error.Twice at) = IsFirst p at rule.Twice
+IsRefused p (error.Recursive at) = IsFirst p at rule.Recursive
+IsRefused p (error.Class at) = IsFirst p at rule.Class
+IsRefused p (error.Shape at) = IsFirst p at rule.Shape
+IsRefused p (error.Arity at) = IsFirst p at rule.Arity
+IsRefused p (error.TooLong at) = IsFirst p at rule.TooLong
+IsRefused p (error.TooMany at) = IsFirst p at rule.TooMany
+IsRefused p error.NoMain = KeepsRules p × (has_main p.items ≡ false)
+IsRefused p error.OutOfMemory = Unit {0}

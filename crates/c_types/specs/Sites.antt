@@ -1,0 +1,246 @@
+-- The sites of a program: its places at which a typing rule may be broken, in the order of the source, each with
+-- what is known there. A declaration is known from behind it to the end of its scope.
+use Rattle.std.specs.Prelude.{◌≡◌, ℕ, ◌+◌, ◌-◌, Bool, true, false, List, [], ◌∷◌, ◌++◌, length, Option, Some, None, is_some}
+use Rattle.arrayvec.specs.ArrayString.{ArrayString}
+use Rattle.regions.specs.declared.rights.Class.{Class}
+use Rattle.regions.specs.declared.rights.Class.TheVariants as class
+use Rattle.c_grammar.specs.declared.expr.Expr.{Expr}
+use Rattle.c_grammar.specs.declared.expr.Expr.TheOpen.{Expr-F}
+use Rattle.c_grammar.specs.declared.expr.Expr.TheFolds.{fold-Expr}
+use Rattle.c_grammar.specs.declared.stmt.Stmt.{Stmt}
+use Rattle.c_grammar.specs.declared.stmt.Stmt.TheOpen.{Stmt-F}
+use Rattle.c_grammar.specs.declared.stmt.Stmt.TheFolds.{fold-Stmt}
+use Rattle.c_grammar.specs.declared.item.Kind3.{Kind3}
+use Rattle.c_grammar.specs.declared.item.Kind3.TheVariants.{Void}
+use Rattle.c_grammar.specs.declared.item.Storage.{Storage}
+use Rattle.c_grammar.specs.declared.item.Storage.TheVariants.{Verified, Private, Shared, Logged}
+use Rattle.c_grammar.specs.declared.item.Parameter.{Parameter}
+use Rattle.c_grammar.specs.declared.item.Item.{Item}
+use Rattle.c_grammar.specs.declared.item.Item.TheVariants as item
+use Rattle.c_grammar.specs.declared.item.Program.{Program}
+use Rattle.c_types.specs.declared.declaration.Declaration.{Declaration}
+use Rattle.c_types.specs.declared.declaration.Entity.{Entity}
+use Rattle.c_types.specs.declared.declaration.Entity.TheVariants.{Local, Object, Function}
+use Rattle.c_types.specs.declared.site.Home.{Home}
+use Rattle.c_types.specs.declared.site.How.{How}
+use Rattle.c_types.specs.declared.site.How.TheVariants.{Value, Element, Assign, AssignElement, Call, CallValue}
+use Rattle.c_types.specs.declared.site.Site.{Site}
+use Rattle.c_types.specs.declared.site.Site.TheVariants as site
+use Rattle.c_types.specs.Scopes.{latest, declares, Scope, is_again}
+
+-- a use of a name where these are known
+abbrev pub use_of : How → List Declaration → Home → ArrayString → ℕ → Site
+use_of how known home name at = site.Use how (latest known name) home at
+
+-- the sites of an expression, where these are known
+abbrev pub ExprSites : Type 0
+ExprSites = List Declaration → Home → List Site
+
+-- one after the other
+abbrev pub exprs_in_turn : List ExprSites → ExprSites
+exprs_in_turn [] known home = []
+exprs_in_turn (e ∷ es) known home = e known home ++ exprs_in_turn es known home
+
+-- the name of an indexed array stands before the sign `[`
+abbrev pub expr_step : Expr-F ExprSites → ExprSites
+expr_step (Expr-F.Number value unsigned token) known home = []
+expr_step (Expr-F.Name name token) known home = use_of Value known home name token ∷ []
+expr_step (Expr-F.Index name index token) known home = use_of Element known home name (token - 1) ∷ index known home
+expr_step (Expr-F.Call name arguments token) known home =
+    use_of (CallValue (length arguments)) known home name token ∷ exprs_in_turn arguments known home
+expr_step (Expr-F.Input token) known home = []
+expr_step (Expr-F.Paren inner token) known home = inner known home
+expr_step (Expr-F.Unary op inner token) known home = inner known home
+expr_step (Expr-F.Binary op left right token) known home = left known home ++ right known home
+
+-- the sites of an expression
+abbrev pub expr_sites : Expr → ExprSites
+expr_sites = fold-Expr ExprSites expr_step
+
+-- the sites of an expression that need not be there
+abbrev pub part_sites : Option Expr → ExprSites
+part_sites None known home = []
+part_sites (Some e) known home = expr_sites e known home
+
+-- the sites of expressions, one after the other
+abbrev pub list_sites : List Expr → ExprSites
+list_sites [] known home = []
+list_sites (e ∷ es) known home = expr_sites e known home ++ list_sites es known home
+
+-- where a statement stands: its scope, its function, and whether it is inside a loop
+pub record Place : Type 0 where
+  pub scope : Scope
+  pub home : Home
+  pub in_loop : Bool
+
+-- the same place, once these are declared in its scope
+abbrev pub behind : List Declaration → Place → Place
+behind ds place = record place { scope = record { known = place.scope.known ++ ds; start = place.scope.start } }
+
+-- a new scope at a place
+abbrev pub inside : Place → Place
+inside place = record place { scope = record { known = place.scope.known; start = length place.scope.known } }
+
+-- a new scope inside a loop at a place
+abbrev pub looped : Place → Place
+looped place = record (inside place) { in_loop = true }
+
+-- of a statement: what it declares in its scope, and its sites where it stands
+pub record StmtSites : Type 0 where
+  pub declared : List Declaration
+  pub sites : Place → List Site
+
+-- a statement that declares nothing in its scope
+abbrev pub plain : (Place → List Site) → StmtSites
+plain sites = record { declared = []; sites = sites }
+
+-- a part that need not be there
+abbrev pub optional : Option StmtSites → StmtSites
+optional None = plain (λ place. [])
+optional (Some s) = s
+
+-- one after the other: what one declares is known to those behind it
+abbrev pub stmts_in_turn : List StmtSites → Place → List Site
+stmts_in_turn [] place = []
+stmts_in_turn (s ∷ ss) place = s.sites place ++ stmts_in_turn ss (behind s.declared place)
+
+-- a local, which is not known in its own value
+abbrev pub local : Bool → ArrayString → ℕ → Declaration
+local unsigned name token = record { name = name; binding = record { token = token; entity = Local unsigned } }
+
+-- a name that is assigned to
+abbrev pub assign : Option Expr → How
+assign None = Assign
+assign (Some index) = AssignElement
+
+-- Each part of an `if` or of a loop is a scope of its own, and a `for` is one around its parts.
+abbrev pub stmt_step : Stmt-F StmtSites → StmtSites
+stmt_step (Stmt-F.Block body token) = plain (λ place. stmts_in_turn body (inside place))
+stmt_step (Stmt-F.Empty token) = plain (λ place. [])
+stmt_step (Stmt-F.Local unsigned name value token) = record {
+  declared = local unsigned name token ∷ [];
+  sites = λ place. site.Local (is_again place.scope name) token ∷ part_sites value place.scope.known place.home;
+}
+stmt_step (Stmt-F.Assign name index value token) = plain (λ place.
+    use_of (assign index) place.scope.known place.home name token
+    ∷ (part_sites index place.scope.known place.home ++ expr_sites value place.scope.known place.home))
+stmt_step (Stmt-F.Call name arguments token) = plain (λ place.
+    use_of (Call (length arguments)) place.scope.known place.home name token
+    ∷ list_sites arguments place.scope.known place.home)
+stmt_step (Stmt-F.Release value token) = plain (λ place. expr_sites value place.scope.known place.home)
+stmt_step (Stmt-F.Check token) = plain (λ place. [])
+stmt_step (Stmt-F.Return value token) = plain (λ place.
+    site.Return place.home.result (is_some value) token ∷ part_sites value place.scope.known place.home)
+stmt_step (Stmt-F.Break token) = plain (λ place. site.Jump place.in_loop token ∷ [])
+stmt_step (Stmt-F.Continue token) = plain (λ place. site.Jump place.in_loop token ∷ [])
+stmt_step (Stmt-F.If test body other token) = plain (λ place.
+    expr_sites test place.scope.known place.home ++ body.sites (inside place) ++ (optional other).sites (inside place))
+stmt_step (Stmt-F.While test body token) = plain (λ place.
+    expr_sites test place.scope.known place.home ++ body.sites (looped place))
+stmt_step (Stmt-F.For first test step body token) = plain (λ place.
+    let around = behind (optional first).declared (inside place) in
+    (optional first).sites (inside place)
+    ++ (part_sites test around.scope.known around.home ++ (optional step).sites (inside around) ++ body.sites (looped around)))
+
+-- what a statement declares in its scope, and its sites
+abbrev pub stmt_sites : Stmt → StmtSites
+stmt_sites = fold-Stmt StmtSites stmt_step
+
+-- the same of a statement that need not be there
+abbrev pub branch_sites : Option Stmt → StmtSites
+branch_sites None = plain (λ place. [])
+branch_sites (Some s) = stmt_sites s
+
+-- the sites of statements, one after the other
+abbrev pub body_sites : List Stmt → Place → List Site
+body_sites [] place = []
+body_sites (s ∷ ss) place = (stmt_sites s).sites place ++ body_sites ss (behind (stmt_sites s).declared place)
+
+-- the class of a kept object
+abbrev pub class_of : Storage → Class
+class_of Verified = class.Verified
+class_of Private = class.Private
+class_of Shared = class.Open
+class_of Logged = class.Logged
+
+-- what an item stands for
+abbrev pub entity_of : Item → Entity
+entity_of (item.Object storage unsigned name length token) = Object (class_of storage) unsigned length
+entity_of (item.Constant unsigned name length values braces token) = Object class.Constant unsigned length
+entity_of (item.Untrusted name token) = Function Void true 0
+entity_of (item.Function private result name parameters body token) = Function result false (length parameters)
+
+-- the name of an item
+abbrev pub name_of : Item → ArrayString
+name_of (item.Object storage unsigned name length token) = name
+name_of (item.Constant unsigned name length values braces token) = name
+name_of (item.Untrusted name token) = name
+name_of (item.Function private result name parameters body token) = name
+
+-- the token of the name of an item
+abbrev pub token_of : Item → ℕ
+token_of (item.Object storage unsigned name length token) = token
+token_of (item.Constant unsigned name length values braces token) = token
+token_of (item.Untrusted name token) = token
+token_of (item.Function private result name parameters body token) = token
+
+-- what an item declares
+abbrev pub declaration_of : Item → Declaration
+declaration_of item = record { name = name_of item; binding = record { token = token_of item; entity = entity_of item } }
+
+-- what items declare
+abbrev pub declarations_of : List Item → List Declaration
+declarations_of [] = []
+declarations_of (item ∷ items) = declaration_of item ∷ declarations_of items
+
+-- the length of an array stands behind its name and the sign `[`
+abbrev pub length_sites : Option ℕ → ℕ → List Site
+length_sites None token = []
+length_sites (Some length) token = site.Length length (token + 2) ∷ []
+
+-- a parameter, which is declared as a local is
+abbrev pub parameter : Parameter → Declaration
+parameter p = local p.unsigned p.name p.token
+
+-- what parameters declare
+abbrev pub parameters_of : List Parameter → List Declaration
+parameters_of [] = []
+parameters_of (p ∷ ps) = parameter p ∷ parameters_of ps
+
+-- the sites of parameters, the first of which has so many before it
+abbrev pub parameter_sites : ℕ → List Parameter → Place → List Site
+parameter_sites number [] place = []
+parameter_sites number (p ∷ ps) place =
+    site.Parameter number (is_again place.scope p.name) p.token ∷ parameter_sites (number + 1) ps (behind (parameter p ∷ []) place)
+
+-- Parameters and the outermost block of the body are one scope.
+abbrev pub function_sites : List Parameter → List Stmt → Place → List Site
+function_sites parameters body place =
+    parameter_sites 0 parameters place ++ body_sites body (behind (parameters_of parameters) place)
+
+-- a new scope in a function, where these are known
+abbrev pub in_function : List Declaration → Home → Place
+in_function known home = record { scope = record { known = known; start = length known }; home = home; in_loop = false }
+
+-- the sites of an item besides its name, where these are known
+abbrev pub inner_sites : List Declaration → Item → List Site
+inner_sites known (item.Object storage unsigned name length token) = length_sites length token
+inner_sites known (item.Constant unsigned name length' values braces token) =
+    site.Constant length' (length values) braces token ∷ length_sites length' token
+inner_sites known (item.Untrusted name token) = []
+inner_sites known (item.Function private result name parameters body token) =
+    function_sites parameters body (in_function known (record { private = private; result = result; token = token }))
+
+-- the sites of an item, where these are known and so many items stand before it: its own name is known inside it
+abbrev pub global_sites : ℕ → List Declaration → Item → List Site
+global_sites number known item =
+    site.Global number (declares known (name_of item)) (token_of item) ∷ inner_sites (known ++ declaration_of item ∷ []) item
+
+-- the sites of an item behind others
+abbrev pub item_sites : List Item → Item → List Site
+item_sites before item = global_sites (length before) (declarations_of before) item
+
+-- an item of a program, and the items before it
+pub record Follows (p : Program) (before : List Item) (item : Item) : Type 0 where
+  pub behind : List Item
+  pub all : p.items ≡ before ++ item ∷ behind

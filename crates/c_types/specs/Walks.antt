@@ -1,0 +1,32 @@
+-- Where a walk over a program stands. It is for the walk's own functions.
+use Rattle.std.specs.Prelude.{ℕ, ◌+◌, ◌<◌, ◌^◌, List, [], ◌∷◌, ◌++◌}
+use Rattle.c_grammar.specs.declared.item.Item.{Item}
+use Rattle.c_types.specs.declared.verdict.Verdict.{Verdict}
+use Rattle.c_grammar.specs.declared.stmt.Stmt.{Stmt}
+use Rattle.c_types.specs.declared.declaration.Declaration.{Declaration}
+use Rattle.c_types.specs.declared.statements.Context.{Context}
+use Rattle.c_types.specs.Verdicts.{noted, afresh}
+use Rattle.c_types.specs.Sites.{Place, stmt_sites, declaration_of, token_of, global_sites}
+
+-- the place where these declarations are known
+abbrev pub placed : List Declaration → Context → Place
+placed known context = record {
+  scope = record { known = known; start = context.start };
+  home = context.home;
+  in_loop = context.in_loop;
+}
+
+-- what statements in a row declare in their scope
+abbrev pub declared_in : List Stmt → List Declaration
+declared_in [] = []
+declared_in (s ∷ ss) = (stmt_sites s).declared ++ declared_in ss
+
+-- what is found once items in a row are gone past, where these are known and so many items stand before them
+abbrev pub items_noted : ℕ → List Declaration → List Item → Verdict → Verdict
+items_noted number known [] v = v
+items_noted number known (item ∷ items) v =
+    items_noted (number + 1) (known ++ declaration_of item ∷ []) items (noted (afresh v) (global_sites number known item))
+
+-- the number of the token behind the sign `[` that may follow the name is one
+abbrev pub HasRoom : Item → Type 0
+HasRoom item = token_of item + 2 < 2 ^ 32

@@ -1,0 +1,23 @@
+//! The typing rules of the source language: which programs keep them, and the first place where one is broken
+//! (a profile of ISO/IEC 9899, sections 6.2.1, 6.5.2 and 6.8).
+#![tactic(auto)]
+
+mod checked;
+mod checking;
+mod declaration;
+mod error;
+mod expressions;
+mod items;
+mod names;
+mod site;
+mod statements;
+mod verdict;
+
+pub use checked::{Checked, Function, Functions, Object, Objects};
+pub use checking::check;
+pub use declaration::{Binding, Declaration, Entity};
+pub use error::TypeError;
+pub use site::{Home, How, Rule, Site};
+
+#[cfg(test)]
+mod tests;
