@@ -1,5 +1,5 @@
 -- A step over flat memory is a step of the ideal machine on which nothing is loose.
-use Rattle.std.proofs.Common.{◌≡◌, ℕ, ◌+◌, ◌-◌, ◌%◌, ◌^◌, ◌<◌, ◌≤◌, ◌⊎◌, inl, inr, Bool, true, false, ◌==◌, if◌then◌else◌, List, [], length, get_or, set, drop, nat_eq, nat_lt, Option, Some, None, IsSome, option_map, unwrap_or, Result, Ok, Err, refl, sym, ◌∙◌, ap, subst, arith, add-one, drop-cons}
+use Rattle.std.proofs.Common.{◌≡◌, ℕ, suc, ◌*◌, ◌/◌, ◌++◌, ◌+◌, ◌-◌, ◌%◌, ◌^◌, ◌<◌, ◌≤◌, ◌⊎◌, inl, inr, Bool, true, false, ◌==◌, if◌then◌else◌, List, [], length, get_or, set, drop, nat_eq, nat_lt, Option, Some, None, IsSome, option_map, unwrap_or, Result, Ok, Err, refl, sym, ◌∙◌, ap, subst, arith, add-one, drop-cons, zero, replicate, nat_le, length-append, append_assoc}
 use Rattle.std.proofs.lemmas.Bool.Decides.{nat_tests}
 use Rattle.std.proofs.lemmas.Bool.{cases_lt, cases_eq}
 use Rattle.std.proofs.lemmas.Grind.{common_steps}
@@ -15,7 +15,7 @@ use Rattle.regions.specs.declared.Class.{Class}
 use Rattle.regions.specs.declared.Class.TheVariants.{Open, Verified, Private, Constant, Code, Logged}
 use Rattle.regions.specs.declared.Access.{Access}
 use Rattle.regions.specs.declared.Access.TheVariants.{Read, Write, Fetch}
-use Rattle.regions.specs.Addresses.{class_at, open_end, LiesIn, HasBlock, IsInData, IsInLog}
+use Rattle.regions.specs.Addresses.{class_at, open_end, LiesIn, HasBlock, IsInData, IsInLog, start_of, end_of}
 use Rattle.regions.specs.AddressLaws.{class_at-LiesIn, LiesIn-class_at, HasBlock-LiesIn}
 use Rattle.regions.specs.Modes.{SecureInstruction, Enter, Exit, IndexTrap, DivideTrap, Suspend, Resume, PrivateOn, PrivateOff, Release, Input, Check, allowed_in}
 use Rattle.orbis_core.specs.declared.effect.Effect.{Effect}
@@ -28,15 +28,18 @@ use Rattle.orbis_core.specs.declared.port.Port.{Port}
 use Rattle.orbis_core.specs.declared.stepping.StepEnd.{StepEnd}
 use Rattle.orbis_core.specs.declared.stepping.StepEnd.TheVariants as end
 use Rattle.orbis_core.specs.Effects.{effect_of}
-use Rattle.orbis_core.specs.FlatMemory.{Flat, flat_accesses, index_of, put, word_at, word_count}
-use Rattle.orbis_core.specs.FlatIsIdeal.{HasWords, HasInput, GoesTo, Answers, FlatStepIsIdeal}
+use Rattle.orbis_core.specs.FlatMemory.{Flat, flat_accesses, index_of, put, word_at, word_count, flat_of, open_words, block_words}
+use Rattle.orbis_core.specs.FlatIsIdeal.{HasWords, HasInput, GoesTo, Answers, FlatStepIsIdeal, FlatStartIsIdeal}
 use Rattle.orbis_core.specs.Ideal.{Ideal, IdealEnd, Refused, carried, executed, ideal_step, is_among, loaded, loads, memory_stored, nothing_loose, secured, shared_loose, stores, taken, traffic_stored, unless, updated, word_start}
 use Rattle.orbis_core.specs.Processor.{Processor, advanced, register, written}
 use Rattle.orbis_core.specs.Refusals.{answered, is_allowed, word_refusal, byte_refusal, unless_refused}
 use Rattle.orbis_core.specs.Rows.{Machine, Carries, Executes, GoesOn, Leaves, Steps, core_loaded, core_stored, end_behind}
 use Rattle.orbis_core.specs.Secure.{secure_of, secure_end, secure_core, secure_port, port_read}
 use Rattle.orbis_core.specs.Secure.{input_word as port_word}
-use Rattle.orbis_core.specs.Words.{byte_in, with_byte}
+use Rattle.orbis_core.specs.Words.{byte_in, with_byte, words_in}
+use Rattle.std.proofs.lemmas.List.{length-replicate, get_or_append_left, get_or-append_right}
+use Rattle.regions.specs.Blocks.{data_blocks}
+use Rattle.orbis_core.specs.FlatLaws.{length-words_in, between}
 
 -- ---- addresses
 
@@ -98,6 +101,78 @@ some_start layout at some = go (class_at layout at) refl some
     go (Some class) is some = let has : class_at layout (word_start at) ≡ Some class = class_at-LiesIn layout (word_start at) class (start-LiesIn layout at class (LiesIn-class_at layout at class (sym is))) in
         rw has refl
     go None is some = absurd (grind arith)
+
+-- ---- before the first access
+
+-- a list of zeros has zeros
+zeros-get_or : (count i : ℕ) → (let zeros : List ℕ = replicate count 0 in get_or zeros i 0 ≡ 0)
+zeros-get_or zero i = refl
+zeros-get_or (suc count) zero = refl
+zeros-get_or (suc count) (suc i) = zeros-get_or count i
+
+-- zeros stand before and behind the words in the middle
+zero-front : (count rest i : ℕ) (words : List ℕ) → i < count → (let all : List ℕ = replicate count 0 ++ words ++ replicate rest 0 in get_or all i 0 ≡ 0)
+zero-front count rest i words below =
+    let front : List ℕ = replicate count 0 in
+    let back : List ℕ = replicate rest 0 in
+    let long : length front ≡ count = length-replicate count 0 in
+    let within : i < length front = omega arith in
+    ap (λ xs. get_or xs i 0) (append_assoc front words back) ∙ get_or_append_left front (words ++ back) 0 i within ∙ zeros-get_or count i
+
+zero-back : (count rest i : ℕ) (words : List ℕ) → count + length words ≤ i → (let all : List ℕ = replicate count 0 ++ words ++ replicate rest 0 in get_or all i 0 ≡ 0)
+zero-back count rest i words above =
+    let front : List ℕ = replicate count 0 in
+    let back : List ℕ = replicate rest 0 in
+    let long : length front ≡ count = length-replicate count 0 in
+    let whole : length (front ++ words) ≡ count + length words = length-append front words ∙ ap (λ n. n + length words) long in
+    get_or-append_right (front ++ words) back (count + length words) i 0 whole above ∙ zeros-get_or rest (i - (count + length words))
+
+-- a static address has the number of its static word, and the others have numbers before or behind them
+static_index : (layout : Layout) (at : ℕ) → start_of layout Constant ≤ at → at < end_of layout Code
+    → index_of layout at ≡ open_words + block_words * (layout.verified + layout.private) + (at - start_of layout Constant) / 4
+static_index layout at from below = let fits = layout.data_fits in grind (arith, nat_tests)
+
+front_index : (layout : Layout) (at : ℕ) → IsInside layout at → at < start_of layout Constant → index_of layout at < open_words + block_words * (layout.verified + layout.private)
+front_index layout at (inl a) below = grind (arith, nat_tests)
+front_index layout at (inr (inl a)) below = let fits = layout.data_fits in grind (arith, nat_tests, a.from, a.block)
+front_index layout at (inr (inr a)) below = let fits = layout.data_fits in absurd (omega (arith, a.from, a.block))
+
+back_index : (layout : Layout) (at : ℕ) → IsInside layout at → end_of layout Code ≤ at → open_words + block_words * data_blocks layout ≤ index_of layout at
+back_index layout at (inl a) above = absurd (omega arith)
+back_index layout at (inr (inl a)) above = absurd (omega (arith, a.from, a.block))
+back_index layout at (inr (inr a)) above = grind (arith, nat_tests, a.from, a.block)
+
+pub flat-start : FlatStartIsIdeal
+flat-start layout statics long =
+    let count : ℕ = open_words + block_words * (layout.verified + layout.private) in
+    let rest : ℕ = block_words * layout.log in
+    let words : List ℕ = words_in statics in
+    let many : length words ≡ 16 * (layout.constants + layout.code) = length-words_in statics ∙ omega arith in
+    let front_long : length (replicate {A = ℕ} count 0) ≡ count = length-replicate count 0 in
+    let back_long : length (replicate {A = ℕ} rest 0) ≡ rest = length-replicate rest 0 in
+    record {
+      whole = length-append (replicate count 0 ++ words) (replicate rest 0) ∙ ap (λ n. n + length (replicate {A = ℕ} rest 0)) (length-append (replicate count 0) words) ∙ omega arith;
+      each = λ at aligned some.
+          elim (cases_lt at (start_of layout Constant)) [
+            | inl below ↦
+                let test : nat_le (start_of layout Constant) at ≡ false = grind (arith, nat_tests) in
+                rw test (sym (zero-front count rest (index_of layout at) words (front_index layout at (inside layout at some) below)))
+            | inr from ↦
+                elim (cases_lt at (end_of layout Code)) [
+                  | inl below ↦
+                      let first : nat_le (start_of layout Constant) at ≡ true = grind (arith, nat_tests) in
+                      let second : nat_lt at (end_of layout Code) ≡ true = grind (arith, nat_tests) in
+                      let k : ℕ = (at - start_of layout Constant) / 4 in
+                      let within : k < length words = omega arith in
+                      rw (first, second) (sym (ap (λ i. get_or (flat_of layout statics).words i 0) (static_index layout at from below) ∙ between (replicate count 0) words (replicate rest 0) count k front_long within))
+                  | inr above ↦
+                      let first : nat_le (start_of layout Constant) at ≡ true = grind (arith, nat_tests) in
+                      let second : nat_lt at (end_of layout Code) ≡ false = grind (arith, nat_tests) in
+                      let behind : count + length words ≤ index_of layout at = (let far : open_words + block_words * data_blocks layout ≤ index_of layout at = back_index layout at (inside layout at some) above in omega arith) in
+                      rw (first, second) (sym (zero-back count rest (index_of layout at) words behind))
+                ]
+          ];
+    }
 
 -- ---- refusals
 

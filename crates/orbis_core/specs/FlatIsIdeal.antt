@@ -1,7 +1,8 @@
 -- A step over flat memory is a step of the ideal machine on which nothing is loose, in the rights of PTR.
-use Rattle.std.specs.Prelude.{◌≡◌, ℕ, ◌%◌, ◌^◌, ◌<◌, ◌≤◌, true, false, [], ◌∷◌, ◌++◌, length, drop, IsSome, slice_index}
+use Rattle.std.specs.Prelude.{◌≡◌, ℕ, ◌+◌, ◌*◌, List, ◌%◌, ◌^◌, ◌<◌, ◌≤◌, true, false, [], ◌∷◌, ◌++◌, length, drop, IsSome, slice_index}
 use Rattle.execution.specs.Run.{Next, Goes, Stops}
 use Rattle.execution.specs.Traffic.{Traffic}
+use Rattle.regions.specs.declared.Layout.{Layout}
 use Rattle.regions.specs.declared.Mode.{Mode}
 use Rattle.regions.specs.declared.Mode.TheVariants.{Te, Ptr}
 use Rattle.regions.specs.Addresses.{class_at}
@@ -10,8 +11,8 @@ use Rattle.orbis_core.specs.declared.memory.Why.TheVariants as why
 use Rattle.orbis_core.specs.declared.port.Port.{Port}
 use Rattle.orbis_core.specs.declared.stepping.StepEnd.{StepEnd}
 use Rattle.orbis_core.specs.declared.stepping.StepEnd.TheVariants as end
-use Rattle.orbis_core.specs.FlatMemory.{Flat, flat_accesses, word_at, word_count}
-use Rattle.orbis_core.specs.Ideal.{Ideal, IdealEnd, Ended, Index, Divide, Refused, ideal_step, nothing_loose}
+use Rattle.orbis_core.specs.FlatMemory.{Flat, flat_accesses, flat_of, word_at, word_count}
+use Rattle.orbis_core.specs.Ideal.{Ideal, IdealEnd, Ended, Index, Divide, Refused, ideal_step, nothing_loose, static_memory}
 use Rattle.orbis_core.specs.Rows.{Machine, Steps}
 
 -- the flat memory has all its words, and each of them is that of the ideal machine at its address
@@ -66,3 +67,8 @@ abbrev pub FlatStepIsIdeal : Type 0
 FlatStepIsIdeal =
     (old new : Machine Flat) (ended : StepEnd) (state : Ideal) → IsTied old Ptr state → Steps flat_accesses old ended new →
     Answers ended new state (ideal_step old.memory.layout nothing_loose state)
+
+-- before the first step the words are those of the ideal machine, with the bytes of the constant and code blocks
+abbrev pub FlatStartIsIdeal : Type 0
+FlatStartIsIdeal =
+    (layout : Layout) (statics : List ℕ) → length statics ≡ 64 * (layout.constants + layout.code) → HasWords (flat_of layout statics) (static_memory layout statics)

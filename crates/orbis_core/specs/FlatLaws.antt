@@ -42,7 +42,7 @@ length-bytes_of [] = refl
 length-bytes_of (word ∷ words) = let rest : length (bytes_of words) ≡ 4 * length words = length-bytes_of words in omega arith
 
 -- what stands in the middle of three lists
-between : (front words back : List ℕ) (count k : ℕ) → length front ≡ count → k < length words → get_or (front ++ words ++ back) (count + k) 0 ≡ get_or words k 0
+pub between : (front words back : List ℕ) (count k : ℕ) → length front ≡ count → k < length words → get_or (front ++ words ++ back) (count + k) 0 ≡ get_or words k 0
 between front words back count k long below =
     rw (← long, append_assoc front words back, get_or-append-add front (words ++ back) k 0) (get_or_append_left words back 0 k below)
 

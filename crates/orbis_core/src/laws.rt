@@ -1,10 +1,14 @@
 //! Laws of the ideal machine.
-ghost use Rattle.orbis_core.specs.FlatIsIdeal.{FlatStepIsIdeal};
+ghost use Rattle.orbis_core.specs.FlatIsIdeal.{FlatStartIsIdeal, FlatStepIsIdeal};
 ghost use Rattle.orbis_core.specs.IdealLaws.{IdealEndsStay, IdealRunsExtend, IdealRunsJoin};
 
-/// A step over flat memory is a step of the ideal machine on which nothing is loose, in the rights of PTR.
-pub fn flat_step_is_ideal()
-    ensures ideal { FlatStepIsIdeal }
+/// Flat memory is the ideal memory.
+pub fn flat_is_ideal()
+    // Before the first step it has the words of the ideal machine.
+    ensures start { FlatStartIsIdeal }
+
+    // A step over it is a step of the ideal machine on which nothing is loose, in the rights of PTR.
+    ensures step { FlatStepIsIdeal }
 {}
 
 /// Runs of the ideal machine.
