@@ -1,3 +1,4 @@
 pub mod Cursor
 pub mod ScriptedMemory
 pub mod Within
+mod Worked

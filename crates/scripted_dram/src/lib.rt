@@ -3,9 +3,11 @@
 
 mod bytes;
 mod due;
+mod laws;
 mod scripted;
 mod storage;
 
+pub use laws::plain_under_empty_script;
 pub use scripted::ScriptedDram;
 
 #[cfg(test)]

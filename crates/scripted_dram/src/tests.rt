@@ -1,12 +1,14 @@
 //! Both memories, by lists of events: each event is called for, and the trace has to be the list again.
 ghost use Rattle.std.specs.Prelude.{◌≡◌, ◌<◌, true, Some};
-ghost use Rattle.off_chip.specs.Memory.{HasPlace};
+ghost use Rattle.off_chip.specs.Memory.{HasPlace, static_blocks};
 
 use super::*;
 use adversary_script::read_script;
+use aegis_num::limits::MAX_SCRIPT_BYTES;
 use aegis_num::{Block, Place};
-use off_chip::{Event, Mark, OffChip, PlainDram, Who, blocks_of_tree};
+use off_chip::{Event, Mark, OffChip, PlainDram, Trace, Who, blocks_of_tree};
 use regions::{Layout, OPEN_END};
+use std::alloc::Global;
 use std::test::Fail;
 
 // Whether a layout has a place.
@@ -95,4 +97,185 @@ fn call_all<M: OffChip>(memory: &mut M, layout: &Layout, events: &[Event])
             call(memory, layout, event);
         }
     }
+}
+
+// One verified block, one code block and two log blocks. The tree is one level high: the verified block is its
+// block 1, the code block its block 2, and its block 3 is unused.
+fn small() -> Layout
+    ensures { static_blocks result ≡ 1 }
+{
+    Layout {
+        verified: 1,
+        private: 0,
+        constants: 0,
+        code: 1,
+        log: 2,
+        shared: 0,
+    }
+}
+
+// A block of one byte, 64 times.
+fn filled(byte: u8, stamp: u64) -> Block {
+    Block {
+        payload: [byte; 64],
+        stamp,
+    }
+}
+
+// A block of one byte, but for its first byte.
+fn headed(first: u8, byte: u8, stamp: u64) -> Block {
+    let mut block = filled(byte, stamp);
+    block.payload[0] = first;
+    block
+}
+
+fn reads(at: Place, block: Block) -> Event {
+    Event::BlockRead { at, block }
+}
+
+fn writes(at: Place, block: Block) -> Event {
+    Event::BlockWrite { at, block }
+}
+
+fn word(by: Who, at: u32, word: u32) -> Event {
+    Event::WordRead { by, at, word }
+}
+
+// Over the small layout with a code block of nines, calls for each event, and gives the trace.
+fn replay(alloc: Global, script: &str, events: &[Event]) -> Result<Trace, Fail> {
+    let layout = small();
+    let text = &script.as_bytes()[..script.len().min(MAX_SCRIPT_BYTES as usize)];
+    let changes = read_script(alloc, text)?;
+    let mut dram = ScriptedDram::new(alloc, &layout, &[9; 64], changes, 64)?;
+    call_all(&mut dram, &layout, events);
+    Ok(dram.into_trace())
+}
+
+#[test]
+fn does_each_change_at_its_moment(rt: HostRuntime) -> Result<(), Fail> {
+    let (data, text, node, unused) = (
+        Place::Tree(1),
+        Place::Tree(2),
+        Place::Tree(0),
+        Place::Tree(3),
+    );
+    let (log, other_log) = (Place::Log(0), Place::Log(1));
+    let zero = filled(0, 0);
+    let suspend = Event::Note(Mark::Suspend);
+    let rows: [(&str, &[Event]); 8] = [
+        (
+            "at 1 open 0 aabbccdd",
+            &[word(Who::Secure, 0, 0), word(Who::Secure, 0, 0xaabb_ccdd)],
+        ),
+        (
+            "",
+            &[
+                word(Who::Untrusted, 0x2000, 0x7000_0003),
+                reads(text, filled(9, 0)),
+            ],
+        ),
+        ("suspend 0 back 0 data 0", &[suspend, reads(data, zero)]),
+        (
+            "start save 0 log 0\nat 1 back 0 log 0",
+            &[writes(log, filled(1, 5)), reads(log, zero)],
+        ),
+        (
+            "start data 0 0 aa\nstart node 0 0 bb\nstart text 0 0 cc\nstart log 1 0 dd\nstart code 01020304",
+            &[
+                reads(data, headed(0xaa, 0, 0)),
+                reads(node, headed(0xbb, 0, 0)),
+                reads(text, headed(0xcc, 9, 0)),
+                reads(other_log, headed(0xdd, 0, 0)),
+                reads(log, zero),
+                reads(unused, zero),
+                word(Who::Untrusted, 0x2000, 0x0102_0304),
+            ],
+        ),
+        (
+            "start data 0 64 0102030405060708\nat 1 save 0 data 0\nat 1 save 1 node 0\nat 1 save 2 text 0\n\
+            at 1 save 15 log 1\nat 3 back 0 node 0\nat 3 back 2 data 0\nat 3 back 15 text 0\nat 3 back 1 log 1",
+            &[
+                writes(node, filled(4, 4)),
+                reads(data, filled(0, 0x0102_0304_0506_0708)),
+                writes(other_log, filled(6, 6)),
+                reads(node, filled(0, 0x0102_0304_0506_0708)),
+                reads(data, filled(9, 0)),
+                reads(text, zero),
+                reads(other_log, filled(4, 4)),
+            ],
+        ),
+        (
+            "at 2 copy log 0 data 0\nat 2 copy data 0 text 0\nat 2 copy text 0 node 0\nat 4 copy node 0 log 1\n\
+            suspend 1 node 3 71 07\nsuspend 1 copy node 3 log 0",
+            &[
+                writes(log, filled(1, 0x0100)),
+                suspend,
+                reads(data, filled(1, 0x0100)),
+                reads(text, filled(1, 0x0100)),
+                reads(other_log, filled(1, 0x0100)),
+                reads(log, filled(1, 0x0100)),
+                suspend,
+                reads(log, filled(0, 7)),
+                reads(unused, filled(0, 7)),
+            ],
+        ),
+        // What is outside the layout, and a slot that was never saved, does nothing.
+        (
+            "start data 2 0 ff\nstart text 1 0 ff\nstart node 4 0 ff\nstart log 2 0 ff\nstart save 0 data 2\n\
+            start back 0 node 0\nstart copy log 2 data 0\nstart copy data 2 log 0\nat 4294967295 open 0 01\n\
+            suspend 4294967295 open 0 01",
+            &[
+                suspend,
+                reads(node, zero),
+                reads(data, zero),
+                reads(text, filled(9, 0)),
+                reads(unused, zero),
+                reads(log, zero),
+                reads(other_log, zero),
+                word(Who::Secure, 0, 0),
+            ],
+        ),
+    ];
+    for (script, events) in rows {
+        let trace = replay(rt.alloc(), script, events)?;
+        assert_eq!(rt; trace.events(), events, "{script}");
+    }
+    Ok(())
+}
+
+#[test]
+fn is_a_plain_memory_under_an_empty_script(rt: HostRuntime) -> Result<(), Fail> {
+    let layout = small();
+    let statics = [9; 64];
+    let events = [
+        Event::Note(Mark::Enter),
+        writes(Place::Tree(0), filled(1, 1)),
+        reads(Place::Tree(2), filled(9, 0)),
+        writes(Place::Tree(2), filled(2, 0xfedc_ba98_7654_3210)),
+        Event::WordWrite {
+            by: Who::Untrusted,
+            at: 0xfffc,
+            word: 0x8765_4321,
+        },
+        reads(Place::Tree(2), filled(2, 0xfedc_ba98_7654_3210)),
+        reads(Place::Tree(0), filled(1, 1)),
+        word(Who::Secure, 0xfffc, 0x8765_4321),
+        writes(Place::Log(1), filled(3, 3)),
+        Event::Note(Mark::Suspend),
+        reads(Place::Log(1), filled(3, 3)),
+        reads(Place::Log(0), filled(0, 0)),
+        reads(Place::Tree(3), filled(0, 0)),
+        word(Who::Untrusted, 0x2000, 0x7000_0003),
+        Event::Note(Mark::Retire(Who::Untrusted)),
+    ];
+    let script = read_script(rt.alloc(), b"")?;
+    let mut scripted = ScriptedDram::new(rt.alloc(), &layout, &statics, script, 16)?;
+    call_all(&mut scripted, &layout, &events);
+    assert_eq!(rt; (scripted.events(), scripted.room()), (15, 1));
+    assert_eq!(rt; scripted.into_trace().events(), &events[..]);
+    let mut plain = PlainDram::new(rt.alloc(), &layout, &statics, 16)?;
+    call_all(&mut plain, &layout, &events);
+    assert_eq!(rt; (plain.events(), plain.room()), (15, 1));
+    assert_eq!(rt; plain.into_trace().events(), &events[..]);
+    Ok(())
 }

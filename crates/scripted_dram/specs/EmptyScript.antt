@@ -1,0 +1,13 @@
+-- A memory under an empty script is a plain one.
+use Rattle.std.specs.Prelude.{ℕ, ◌↔◌, List, []}
+use Rattle.regions.specs.declared.layout.Layout.{Layout}
+use Rattle.off_chip.specs.declared.event.Event.{Event}
+use Rattle.off_chip.specs.Memory.{loaded}
+use Rattle.off_chip.specs.Answers.{IsAnswered}
+use Rattle.scripted_dram.specs.ScriptMemory.{IsAnsweredBy}
+
+-- a trace is answered by the empty script where each read holds the last write at its place, or the load
+abbrev pub PlainUnderEmptyScript : Type 0
+PlainUnderEmptyScript =
+    (layout : Layout) (statics : List ℕ) (trace : List Event) →
+    IsAnsweredBy layout statics [] trace ↔ IsAnswered layout trace (loaded layout statics)
