@@ -5,3 +5,4 @@ pub mod PrintedExpressions
 pub mod PrintedStatements
 pub mod PrintedPrograms
 pub mod ReadsBack
+pub mod Worked
