@@ -186,14 +186,12 @@ fn statement(
             Ok(())
         }
         Stmt::Block { body, .. } => {
-            let start = names.len();
-            statements(
-                names,
-                Context { start, ..context },
-                body.as_slice(),
-                verdict,
-            )?;
-            names.forget(start)?;
+            let inner = Context {
+                start: names.len(),
+                ..context
+            };
+            statements(names, inner, body.as_slice(), verdict)?;
+            names.forget(inner.start)?;
             Ok(())
         }
         Stmt::If {

@@ -26,14 +26,14 @@ statement-returns-in_ok-forget-in-For-clause-declared t c =
     let after : c.repeated-in-For.new.names ≡ c.args.names.now ++ (branch_sites c.in-For.first).declared =
     c.in_ok-repeated-in-For.ensures.declared ∙ c.in_ok-branch_inside-in-For.ensures.declared ∙ c.in_ok-branch-in-For.ensures.declared in
     rw c.in-For.is (c.in_ok-forget-in-For.ensures
-    ∙ for_names c.args.names.now c.repeated-in-For.new.names c.in-For.first c.in-For.step c.in-For.test c.in-For.body c.in-For.token c.len.result c.len.ensures after)
+    ∙ for_names c.args.names.now c.repeated-in-For.new.names c.in-For.first c.in-For.step c.in-For.test c.in-For.body c.in-For.token c.len-in-For.result c.len-in-For.ensures after)
 
 pub statement-returns-in_ok-forget-in-For-clause-sites :
     goal.statement-returns-in_ok-forget-in-For-clause-sites
 statement-returns-in_ok-forget-in-For-clause-sites t c =
     let place = placed c.args.names.now c.args.context in
     let around = behind (branch_sites c.in-For.first).declared (inside place) in
-    let first = rw c.len.ensures at c.in_ok-branch-in-For.ensures.sites in
+    let first = rw c.len-in-For.ensures at c.in_ok-branch-in-For.ensures.sites in
     let test = rw c.in_ok-branch-in-For.ensures.declared at c.part.ensures in
     let step = rw c.in_ok-branch-in-For.ensures.declared at c.in_ok-branch_inside-in-For.ensures.sites in
     let body = rw (c.in_ok-branch_inside-in-For.ensures.declared, c.in_ok-branch-in-For.ensures.declared) at c.in_ok-repeated-in-For.ensures.sites in
