@@ -92,20 +92,16 @@ fn values_of(machine: &mut Machine, functions: &[Function], es: &[Expr]) -> Resu
 pub fn call(
     machine: &mut Machine,
     functions: &[Function],
-    number: u32,
+    number: usize,
     words: Vec<u32>,
 ) -> Result<u32, Fault>
     ensures does { Does (callable functions.now number words.items (seen machine.old)) result (seen machine.new) }
 {
-    match at(functions, number as usize) {
+    match at(functions, number) {
         None => Ok(0),
         Some(function) => {
             give(machine, function.parameters.as_slice(), words.as_slice())?;
-            let flow = statements(
-                machine,
-                &functions[..number as usize],
-                function.body.as_slice(),
-            )?;
+            let flow = statements(machine, &functions[..number], function.body.as_slice())?;
             Ok(result_of(flow))
         }
     }

@@ -40,7 +40,7 @@ pub enum Expr {
     /// A call of a function for its value.
     Called {
         /// The number of the function.
-        function: u32,
+        function: usize,
         /// The arguments, in order.
         arguments: Items<Expr>,
     },
@@ -120,7 +120,7 @@ pub enum Stmt {
     /// A call of a function, whose value is dropped.
     Call {
         /// The number of the function.
-        function: u32,
+        function: usize,
         /// The arguments, in order.
         arguments: Items<Expr>,
     },
@@ -197,5 +197,5 @@ pub struct Program {
     /// The functions, in order. A function calls those before it.
     pub functions: Items<Function>,
     /// The number of the function that a run starts with.
-    pub main: u32,
+    pub main: usize,
 }
