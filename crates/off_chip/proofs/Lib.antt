@@ -1,2 +1,3 @@
 pub mod PlainMemory
 mod Worked
+mod Examples
