@@ -1,5 +1,5 @@
 -- What follows of the first violation, and of none.
-use Rattle.std.proofs.Common.{◌≡◌, ◌∙◌, ap, sym, subst, ℕ, ◌+◌, ◌<◌, ◌≤◌, ◌⊎◌, inl, inr, zero, suc, Bool, true, false, List, [], ◌∷◌, ◌++◌, length, Option, Some, None, refl, arith, All, append_assoc}
+use Rattle.std.proofs.Common.{◌≡◌, ◌∙◌, ap, sym, ℕ, ◌+◌, ◌<◌, ◌≤◌, ◌⊎◌, inl, inr, zero, suc, Bool, List, [], ◌∷◌, ◌++◌, length, refl, arith, All, append_assoc}
 use Rattle.std.proofs.lemmas.List.Elements.{All-cons}
 use Rattle.arrayvec.specs.ArrayString.{ArrayString}
 use Rattle.c_grammar.specs.declared.item.Kind3.{Kind3}
@@ -12,10 +12,9 @@ use Rattle.c_types.specs.declared.site.Rule.{Rule}
 use Rattle.c_types.specs.declared.site.Rule.TheVariants.{Unknown, Twice, Recursive, Class, Shape, Arity, TooLong, TooMany}
 use Rattle.c_types.specs.declared.site.Site.{Site}
 use Rattle.c_types.specs.declared.site.Site.TheVariants as site
-use Rattle.c_types.specs.declared.verdict.Fault.{Fault}
 use Rattle.c_types.specs.Scopes.{is_again, declares}
-use Rattle.c_types.specs.Sites.{Place, behind, parameter, parameter_sites, body_sites, parameters_of, in_function, Follows, item_sites, declaration_of, declarations_of, token_of, name_of}
-use Rattle.c_types.specs.Rules.{Stands, Violates, IsFirst}
+use Rattle.c_types.specs.Sites.{Place, behind, parameter, parameter_sites, body_sites, parameters_of, in_function, item_sites, declaration_of, declarations_of}
+use Rattle.c_types.specs.Rules.{IsFirst}
 use Rattle.c_types.specs.Rules.Violates.{by_site}
 use Rattle.c_types.specs.Rules.Breaks.{parameter_too_many}
 use Rattle.c_types.specs.Checked.{KeepsRules, IsRefused, error_at, HasFewParameters}

@@ -1,5 +1,5 @@
 -- The sites of each form of expression and statement, one equation each.
-use Rattle.std.proofs.Common.{◌≡◌, ◌∙◌, ap, sym, ℕ, ◌-◌, Bool, true, false, List, [], ◌∷◌, ◌++◌, length, map, Option, Some, None, is_some, refl, arith}
+use Rattle.std.proofs.Common.{◌≡◌, ◌∙◌, ap, sym, ℕ, ◌-◌, Bool, List, [], ◌∷◌, ◌++◌, length, map, Option, Some, None, is_some, refl, arith}
 use Rattle.arrayvec.specs.ArrayString.{ArrayString}
 use Rattle.c_token.specs.declared.signs.Sign.{Sign}
 use Rattle.c_grammar.specs.declared.expr.Expr.{Expr}
@@ -12,11 +12,10 @@ use Rattle.c_grammar.specs.declared.stmt.Stmt.TheOpen.{Stmt-F}
 use Rattle.c_grammar.specs.declared.stmt.Stmt.TheFolds.{fold-roll-Stmt}
 use Rattle.c_types.specs.declared.declaration.Declaration.{Declaration}
 use Rattle.c_types.specs.declared.site.Home.{Home}
-use Rattle.c_types.specs.declared.site.How.TheVariants.{Value, Element, Assign, AssignElement, Call, CallValue}
-use Rattle.c_types.specs.declared.site.Site.{Site}
+use Rattle.c_types.specs.declared.site.How.TheVariants.{Value, Element, Call, CallValue}
 use Rattle.c_types.specs.declared.site.Site.TheVariants as site
 use Rattle.c_types.specs.Scopes.{is_again}
-use Rattle.c_types.specs.Sites.{ExprSites, expr_step, expr_sites, use_of, exprs_in_turn, list_sites, part_sites, Place, behind, inside, looped, StmtSites, plain, optional, stmts_in_turn, local, assign, stmt_step, stmt_sites, branch_sites, body_sites}
+use Rattle.c_types.specs.Sites.{ExprSites, expr_step, expr_sites, use_of, exprs_in_turn, list_sites, part_sites, Place, behind, inside, looped, StmtSites, stmts_in_turn, local, assign, stmt_step, stmt_sites, branch_sites, body_sites}
 
 -- ---- lists
 

@@ -1,8 +1,7 @@
 -- What a walk finds is the first violation.
-use Rattle.std.proofs.Common.{◌≡◌, ◌≢◌, ◌⊎◌, inl, inr, ◌∙◌, ap, sym, subst, ℕ, ◌+◌, ◌<◌, ◌≤◌, suc, Bool, true, false, cond, not, ◌&&◌, ◌||◌, ◌==◌, List, [], ◌∷◌, ◌++◌, length, Option, Some, None, refl, arith, min, append_assoc, append-nil, length-append}
+use Rattle.std.proofs.Common.{◌≡◌, ◌≢◌, ◌⊎◌, inl, inr, ◌∙◌, ap, sym, subst, ℕ, ◌+◌, ◌<◌, ◌≤◌, Bool, true, false, cond, not, ◌&&◌, ◌||◌, ◌==◌, List, [], ◌∷◌, ◌++◌, length, Option, Some, None, refl, arith, min, append_assoc, append-nil, length-append}
 use Rattle.std.specs.Prelude.{nat_lt, count_by, fold}
 use Rattle.std.proofs.lemmas.Bool.Decides.{nat_tests}
-use Rattle.regions.specs.declared.rights.Class.TheVariants as class
 use Rattle.c_grammar.specs.declared.item.Kind3.{Kind3}
 use Rattle.c_grammar.specs.declared.item.Kind3.TheVariants.{Int, Unsigned, Void}
 use Rattle.c_grammar.specs.declared.item.Item.{Item}
@@ -21,7 +20,7 @@ use Rattle.c_types.specs.declared.verdict.Fault.{Fault}
 use Rattle.c_types.specs.declared.verdict.Verdict.{Verdict}
 use Rattle.c_types.specs.Rules.{is_call, is_whole, is_indexed, is_assignment, is_function, is_array, is_scalar, is_constant, is_private, is_void, is_without_value, HasArguments, Breaks, Stands, Violates, IsFirst, at_token, is_local, rank}
 use Rattle.c_types.specs.Rules.Breaks.{unknown, twice_local, twice_parameter, twice_global, self_call, constant_assigned, private_outside, array_whole, scalar_indexed, object_called, function_named, no_value, list_for_scalar, value_for_array, values_too_many, value_returned, nothing_returned, outside_loop, other_number, no_elements, too_long, global_too_many, parameter_too_many}
-use Rattle.c_types.specs.Verdicts.{misfits, differs_from, miscounts, is_barred, known_rule, use_rule, name_rule, shape_rule, length_rule, misgiven, misreturns, site_rule, one_more, locals_behind, is_sooner, sooner, with_rule, note, noted, afresh}
+use Rattle.c_types.specs.Verdicts.{misfits, differs_from, miscounts, is_barred, known_rule, use_rule, name_rule, shape_rule, misgiven, misreturns, site_rule, one_more, locals_behind, is_sooner, sooner, with_rule, note, noted, afresh}
 use Rattle.c_types.specs.Sites.{Follows, item_sites, declaration_of, declarations_of}
 use Rattle.c_types.specs.Walks.{items_noted}
 use Rattle.c_types.specs.Findings.{start, first_of}

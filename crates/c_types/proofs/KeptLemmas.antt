@@ -1,5 +1,5 @@
 -- One declaration more or less, and what is then found.
-use Rattle.std.proofs.Common.{◌≡◌, ◌∙◌, ap, sym, ℕ, ◌+◌, ◌≤◌, zero, suc, Bool, true, false, cond, ◌||◌, List, [], ◌∷◌, ◌++◌, length, drop, Option, Some, None, refl, arith, append_assoc, append-nil, add-one, subst, take, slice_get, unwrap_or, ◌-◌, length-append}
+use Rattle.std.proofs.Common.{◌≡◌, ◌∙◌, ap, sym, ℕ, ◌+◌, ◌≤◌, zero, suc, Bool, true, false, cond, ◌||◌, List, [], ◌∷◌, ◌++◌, length, drop, Option, Some, None, refl, arith, append_assoc, append-nil, subst, take, slice_get, unwrap_or, ◌-◌, length-append}
 use Rattle.std.specs.Prelude.{nat_le}
 use Rattle.std.specs.HashMap.{HashMap, get, Updates}
 use Rattle.std.specs.Cmp.Lexicographic.{bytes_decides}

@@ -1,11 +1,11 @@
 -- The token numbers of a program that the grammar gives are those of its tokens.
-use Rattle.std.proofs.Common.{◌≡◌, ℕ, ◌+◌, ◌<◌, ◌≤◌, ◌^◌, suc, List, [], ◌∷◌, ◌++◌, length, arith, All}
+use Rattle.std.proofs.Common.{ℕ, ◌+◌, ◌<◌, ◌≤◌, suc, List, [], ◌∷◌, ◌++◌, length, arith, All}
 use Rattle.std.proofs.lemmas.List.Elements.{All-cons}
 use Rattle.c_token.specs.declared.kinds.Kind.{Kind}
 use Rattle.c_token.specs.declared.signs.Sign.TheVariants.{LeftParenthesis, RightParenthesis, LeftBrace, RightBrace, Semicolon, Assign}
 use Rattle.c_grammar.specs.declared.item.Item.{Item}
 use Rattle.c_grammar.specs.declared.item.Program.{Program}
-use Rattle.c_grammar.specs.Tokens.{numbered, Spot, Bounded, bounded_all, name, sign}
+use Rattle.c_grammar.specs.Tokens.{numbered, Bounded, bounded_all, name, sign}
 use Rattle.c_grammar.specs.Programs.{IsItem, AreItems}
 use Rattle.c_grammar.specs.Programs.IsItem.{object, constant, untrusted, function}
 use Rattle.c_grammar.specs.Programs.AreItems.{nothing, further}

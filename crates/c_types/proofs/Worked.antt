@@ -1,23 +1,16 @@
 -- The definitions on small programs.
-use Rattle.std.proofs.Common.{◌≡◌, ℕ, Bool, true, false, List, [], ◌∷◌, ◌++◌, codes, Some, None, refl}
+use Rattle.std.proofs.Common.{◌≡◌, ℕ, true, false, List, [], ◌∷◌, codes, Some, None}
 use Rattle.arrayvec.specs.ArrayString.{ArrayString}
-use Rattle.c_grammar.specs.declared.expr.Expr.{Expr}
 use Rattle.c_grammar.specs.declared.expr.Expr.TheVariants as expr
-use Rattle.c_grammar.specs.declared.stmt.Stmt.{Stmt}
 use Rattle.c_grammar.specs.declared.stmt.Stmt.TheVariants as stmt
-use Rattle.c_grammar.specs.declared.item.Kind3.TheVariants.{Int, Unsigned, Void}
-use Rattle.c_grammar.specs.declared.item.Storage.TheVariants.{Verified, Private, Shared, Logged}
+use Rattle.c_grammar.specs.declared.item.Kind3.TheVariants.{Int}
 use Rattle.c_grammar.specs.declared.item.Item.{Item}
 use Rattle.c_grammar.specs.declared.item.Item.TheVariants as item
-use Rattle.c_grammar.specs.declared.item.Parameter.{Parameter}
-use Rattle.c_grammar.specs.declared.item.Program.{Program}
 use Rattle.c_types.specs.declared.declaration.Binding.{Binding}
-use Rattle.c_types.specs.declared.declaration.Entity.TheVariants.{Local, Object, Function}
-use Rattle.c_types.specs.declared.site.Home.{Home}
-use Rattle.c_types.specs.declared.site.How.TheVariants.{Value, Element, Assign, AssignElement, Call, CallValue}
-use Rattle.c_types.specs.declared.site.Site.{Site}
+use Rattle.c_types.specs.declared.declaration.Entity.TheVariants.{Local}
+use Rattle.c_types.specs.declared.site.How.TheVariants.{Value, Assign, CallValue}
 use Rattle.c_types.specs.declared.site.Site.TheVariants as site
-use Rattle.c_types.specs.Sites.{expr_sites, item_sites, declaration_of, declarations_of}
+use Rattle.c_types.specs.Sites.{item_sites, declaration_of}
 use Rattle.c_types.proofs.Equations.{expr_forms, stmt_forms}
 
 abbrev named : List ℕ → ArrayString

@@ -1,6 +1,6 @@
 -- Which declaration a name stands for (ISO/IEC 9899, section 6.2.1). Declarations are listed in the order of the
 -- source; of those that are known at a place, the latest of a name hides the earlier ones.
-use Rattle.std.specs.Prelude.{ℕ, nat_eq, Bool, List, [], ◌∷◌, Option, Some, None, if◌then◌else◌, drop}
+use Rattle.std.specs.Prelude.{ℕ, Bool, List, [], ◌∷◌, Option, Some, None, if◌then◌else◌, drop}
 use Rattle.std.specs.List.{list_any}
 use Rattle.std.specs.Str.{bytes_eq}
 use Rattle.arrayvec.specs.ArrayString.{ArrayString}

@@ -10,7 +10,6 @@ use Rattle.c_grammar.specs.declared.expr.Expr.TheFolds.{fold-Expr}
 use Rattle.c_grammar.specs.declared.stmt.Stmt.{Stmt}
 use Rattle.c_grammar.specs.declared.stmt.Stmt.TheOpen.{Stmt-F}
 use Rattle.c_grammar.specs.declared.stmt.Stmt.TheFolds.{fold-Stmt}
-use Rattle.c_grammar.specs.declared.item.Kind3.{Kind3}
 use Rattle.c_grammar.specs.declared.item.Kind3.TheVariants.{Void}
 use Rattle.c_grammar.specs.declared.item.Storage.{Storage}
 use Rattle.c_grammar.specs.declared.item.Storage.TheVariants.{Verified, Private, Shared, Logged}

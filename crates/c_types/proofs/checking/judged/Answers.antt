@@ -1,4 +1,4 @@
-use Rattle.std.proofs.Common.{◌≡◌, ◌∙◌, ap, sym, Some, None, All}
+use Rattle.std.proofs.Common.{◌≡◌, ◌∙◌, ap, sym, Some, None}
 use Rattle.c_types.specs.Findings.{first_of}
 use Rattle.c_types.specs.Checked.{has_main}
 use Rattle.c_types.proofs.Exact.{first_is, none_is}

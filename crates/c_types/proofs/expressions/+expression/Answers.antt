@@ -1,4 +1,4 @@
-use Rattle.std.proofs.Common.{◌≡◌, ◌∙◌, ap, ◌+◌, drop}
+use Rattle.std.proofs.Common.{◌∙◌, ap, ◌+◌, drop}
 use Rattle.c_types.specs.Sites.{list_sites}
 use Rattle.c_types.specs.Verdicts.{noted}
 use Rattle.c_types.proofs.Noted.{list_step}

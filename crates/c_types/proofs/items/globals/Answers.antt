@@ -1,4 +1,4 @@
-use Rattle.std.proofs.Common.{◌≡◌, ◌∙◌}
+use Rattle.std.proofs.Common.{◌∙◌}
 use Rattle.c_types.proofs.Globals.{global_step}
 use Rattle.c_types.proofs.items.globals.Goals as goal
 

@@ -1,4 +1,4 @@
-use Rattle.std.proofs.Common.{◌≡◌, ◌∙◌, ap, ◌+◌, ◌++◌, drop}
+use Rattle.std.proofs.Common.{◌∙◌, ap, ◌+◌, ◌++◌, drop}
 use Rattle.c_types.specs.Sites.{parameters_of}
 use Rattle.c_types.specs.Walks.{placed}
 use Rattle.c_types.proofs.Globals.{parameters_step, parameter_step}

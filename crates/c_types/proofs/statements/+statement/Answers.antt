@@ -1,6 +1,5 @@
-use Rattle.std.proofs.Common.{◌≡◌, ◌∙◌, ap, sym, ◌+◌, ◌++◌, drop, length, refl}
-use Rattle.c_types.specs.Sites.{inside, looped, behind, stmt_sites, branch_sites, body_sites, part_sites}
-use Rattle.c_types.specs.Verdicts.{noted}
+use Rattle.std.proofs.Common.{◌≡◌, ◌∙◌, ap, ◌+◌, ◌++◌, drop, refl}
+use Rattle.c_types.specs.Sites.{inside, behind, branch_sites}
 use Rattle.c_types.specs.Walks.{placed, declared_in}
 use Rattle.c_types.proofs.Noted.{behind_step, body_step, if_parts, while_parts, for_parts, for_names}
 use Rattle.c_types.proofs.statements.+statement.Goals as goal

@@ -1,5 +1,5 @@
-use Rattle.std.proofs.Common.{◌≡◌, ◌∙◌, ap, sym, length, [], ◌∷◌, ◌++◌, rules}
-use Rattle.c_types.specs.Kept.{IsKept, found}
+use Rattle.std.proofs.Common.{◌≡◌, length, [], ◌∷◌, ◌++◌, rules}
+use Rattle.c_types.specs.Kept.{found}
 use Rattle.c_types.proofs.KeptLemmas.{IsKept-more}
 use Rattle.c_types.proofs.names.Names.declare.Goals as goal
 

@@ -1,4 +1,4 @@
-use Rattle.std.proofs.Common.{◌≡◌, ◌∙◌, ◌-◌, ap, sym, length, take, slice_get, Some, rules, vec_len}
+use Rattle.std.proofs.Common.{◌≡◌, ◌-◌, length, slice_get, Some, rules, vec_len}
 use Rattle.c_types.specs.Kept.{last_hidden}
 use Rattle.c_types.proofs.KeptLemmas.{IsKept-forgotten}
 use Rattle.c_types.proofs.names.Names.forget_latest.Goals as goal
