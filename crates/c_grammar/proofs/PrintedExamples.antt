@@ -1,18 +1,15 @@
 -- The printed tokens of worked trees.
-use Rattle.std.proofs.Common.{◌≡◌, ℕ, true, false, List, [], ◌∷◌, ◌++◌, None, Some, refl, ap, ◌∙◌}
-use Rattle.std.specs.Prelude.{codes}
+use Rattle.std.proofs.Common.{◌≡◌, true, false, [], ◌∷◌, ◌++◌, Some, refl, ap, ◌∙◌}
 use Rattle.arrayvec.specs.ArrayString.{ArrayString}
-use Rattle.c_token.specs.declared.kinds.Kind.{Kind}
 use Rattle.c_token.specs.declared.kinds.Kind.TheVariants as kinds
 use Rattle.c_token.specs.declared.words.Word.TheVariants as words
 use Rattle.c_token.specs.declared.signs.Sign.TheVariants as signs
-use Rattle.c_grammar.specs.declared.expr.Expr.{Expr}
 use Rattle.c_grammar.specs.declared.expr.Expr.TheVariants as exprs
 use Rattle.c_grammar.specs.declared.stmt.Stmt.TheVariants as stmts
 use Rattle.c_grammar.specs.declared.item.Item.TheVariants as items
 use Rattle.c_grammar.specs.declared.item.Kind3.TheVariants as results
 use Rattle.c_grammar.specs.declared.item.Storage.TheVariants as storages
-use Rattle.c_grammar.specs.Printed.{expr_kinds, stmt_kinds, item_kinds, program_kinds, in_code}
+use Rattle.c_grammar.specs.Printed.{stmt_kinds, item_kinds, in_code}
 use Rattle.c_grammar.specs.TreeLaws as laws
 
 -- `const int k[2]={1,-2};` in print

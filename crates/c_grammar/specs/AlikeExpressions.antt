@@ -1,5 +1,5 @@
 -- Tokens alike to those of an expression are the same expression.
-use Rattle.std.proofs.Common.{◌≡◌, ◌<◌, ◌≤◌, ℕ, zero, suc, Bool, true, List, [], ◌∷◌, ◌++◌, arith}
+use Rattle.std.proofs.Common.{◌≡◌, ◌<◌, ℕ, suc, Bool, true, List, [], ◌∷◌, ◌++◌, arith}
 use Rattle.arrayvec.specs.ArrayString.{ArrayString}
 use Rattle.c_token.specs.declared.signs.Sign.{Sign}
 use Rattle.c_token.specs.declared.signs.Sign.TheVariants.{LeftParenthesis, RightParenthesis, LeftBracket, RightBracket, Comma}
@@ -7,11 +7,11 @@ use Rattle.c_token.specs.declared.words.Word.TheVariants.{Input}
 use Rattle.c_grammar.specs.declared.expr.Expr.{Expr}
 use Rattle.c_grammar.specs.declared.expr.Expr.TheVariants as e
 use Rattle.c_grammar.specs.Tokens.{Spot, Bounded, name, number, word, sign}
-use Rattle.c_grammar.specs.Signs.{rank, loosest, is_unary_operator}
+use Rattle.c_grammar.specs.Signs.{rank, is_unary_operator}
 use Rattle.c_grammar.specs.Expressions.{Expression, Binary, Unary, Primary, Arguments, Listed, whole, alone, tighter, both, primary, operation, literal, variable, element, call, input, parenthesised, nothing, some, one, further}
 use Rattle.c_grammar.specs.Same as same
 use Rattle.c_grammar.specs.Same.{SameExpr, SameExprs}
-use Rattle.c_grammar.specs.Alike.{Alike, names, numbers, words, signs, AllAlike, none_left, one_more, Splits, parts, split}
+use Rattle.c_grammar.specs.Alike.{names, numbers, words, signs, AllAlike, none_left, one_more, Splits, parts, split}
 
 -- the same expression, of these tokens
 abbrev pub SameExpression : ℕ → Expr → List Bounded → Type 0

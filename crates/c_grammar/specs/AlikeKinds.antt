@@ -1,14 +1,12 @@
 -- Kinds with the same lexemes are read as the same programs.
-use Rattle.std.proofs.Common.{◌≡◌, ◌≤◌, ℕ, suc, Bool, List, [], ◌∷◌, ◌++◌, length, take, refl, sym, ap, subst, ◌∙◌, arith}
+use Rattle.std.proofs.Common.{◌≡◌, ◌≤◌, ℕ, suc, Bool, List, [], ◌∷◌, refl, ap, subst, ◌∙◌, arith}
 use Rattle.std.specs.Prelude.{map}
-use Rattle.arrayvec.specs.ArrayString.{ArrayString}
 use Rattle.c_token.specs.declared.kinds.Kind.{Kind}
 use Rattle.c_token.specs.declared.kinds.Kind.TheVariants as kinds
 use Rattle.c_token.specs.Lexemes.{Lexeme, lexeme_of}
 use Rattle.c_grammar.specs.declared.item.Program.{Program}
-use Rattle.c_grammar.specs.Tokens.{Spot, Bounded, Tok, kinds_of, numbered, bounded, bounded_all}
+use Rattle.c_grammar.specs.Tokens.{Spot, Bounded, kinds_of, numbered, bounded_all}
 use Rattle.c_grammar.specs.Places.{limit, Reads, AreLimited}
-use Rattle.c_grammar.specs.Programs.{IsProgram}
 use Rattle.c_grammar.specs.Same.{Same}
 use Rattle.c_grammar.specs.Alike.{Alike, names, numbers, words, signs, AllAlike, none_left, one_more}
 use Rattle.c_grammar.specs.AlikePrograms.{same_program}

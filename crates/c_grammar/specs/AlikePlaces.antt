@@ -1,14 +1,11 @@
 -- Kinds with the same lexemes stop being the beginning of a program at the same token, and nest too deep at the same token.
-use Rattle.std.proofs.Common.{◌≡◌, ◌≤◌, ◌<◌, ◌⊎◌, inl, inr, ⊎_elim, ℕ, zero, suc, List, [], ◌∷◌, ◌++◌, length, take, refl, sym, ap, subst, ◌∙◌, arith}
-use Rattle.std.specs.Prelude.{map}
+use Rattle.std.proofs.Common.{◌≡◌, ◌<◌, inl, inr, ⊎_elim, ℕ, zero, suc, List, [], ◌∷◌, ◌++◌, length, take, refl, sym, ap, ◌∙◌, arith}
 use Rattle.std.proofs.lemmas.List.{map-append, length-map, take-map}
 use Rattle.c_token.specs.declared.kinds.Kind.{Kind}
 use Rattle.c_token.specs.Lexemes.{lexeme_of}
-use Rattle.c_grammar.specs.declared.item.Program.{Program}
 use Rattle.c_grammar.specs.Tokens.{Bounded, kinds_of}
-use Rattle.c_grammar.specs.Places.{limit, AreLimited, IsText, BeginsWithin, IsExpectedAt, IsDeepAt, IsShallowBefore}
-use Rattle.c_grammar.specs.Programs.{IsProgram}
-use Rattle.c_grammar.specs.Alike.{Alike, AllAlike, none_left, one_more}
+use Rattle.c_grammar.specs.Places.{AreLimited, IsText, BeginsWithin, IsExpectedAt, IsDeepAt, IsShallowBefore}
+use Rattle.c_grammar.specs.Alike.{AllAlike, none_left, one_more}
 use Rattle.c_grammar.specs.AlikePrograms.{same_program}
 use Rattle.c_grammar.specs.AlikeKinds.{lexemes_in, alike}
 

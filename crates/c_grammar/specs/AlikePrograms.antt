@@ -1,9 +1,7 @@
 -- Tokens alike to those of a program are the same program.
-use Rattle.std.proofs.Common.{◌≡◌, ◌<◌, ◌≤◌, ℕ, zero, Bool, true, false, List, [], ◌∷◌, ◌++◌, Option, Some, None, arith}
-use Rattle.arrayvec.specs.ArrayString.{ArrayString}
+use Rattle.std.proofs.Common.{ℕ, Bool, true, false, List, [], ◌∷◌, ◌++◌, Option, Some, None}
 use Rattle.c_token.specs.declared.signs.Sign.TheVariants.{LeftParenthesis, RightParenthesis, LeftBrace, RightBrace, LeftBracket, RightBracket, Semicolon, Comma, Assign, Minus}
 use Rattle.c_token.specs.declared.words.Word.TheVariants as w
-use Rattle.c_grammar.specs.declared.stmt.Stmt.{Stmt}
 use Rattle.c_grammar.specs.declared.item.Storage.{Storage}
 use Rattle.c_grammar.specs.declared.item.Storage.TheVariants as storages
 use Rattle.c_grammar.specs.declared.item.Kind3.{Kind3}
@@ -13,7 +11,7 @@ use Rattle.c_grammar.specs.declared.item.Parameter.{Parameter}
 use Rattle.c_grammar.specs.declared.item.Item.{Item}
 use Rattle.c_grammar.specs.declared.item.Item.TheVariants as i
 use Rattle.c_grammar.specs.declared.item.Program.{Program}
-use Rattle.c_grammar.specs.Tokens.{Spot, Bounded, name, number, word, sign}
+use Rattle.c_grammar.specs.Tokens.{Bounded, name, number, word, sign}
 use Rattle.c_grammar.specs.Programs.{IsStorage, IsLength, IsValue, AreValues, AreInitial, IsResult, IsParameter, AreListed, AreParameters, IsPrivate, IsItem, AreItems, IsProgram}
 use Rattle.c_grammar.specs.Same.{SameParameters, SameItem, SameItems, Same}
 use Rattle.c_grammar.specs.Alike.{AllAlike, at_sign, at_word, at_name, at_number, at_end, at_parts}

@@ -1,5 +1,5 @@
 -- Tokens have one answer: they are a program, or stop being the beginning of one at one token, or nest too deep at one token.
-use Rattle.std.proofs.Common.{◌≡◌, ◌≤◌, ◌<◌, ◌+◌, ◌⊎◌, inl, inr, ℕ, zero, suc, List, [], ◌∷◌, ◌++◌, length, take, drop, refl, sym, ap, subst, ◌∙◌, arith, append_assoc}
+use Rattle.std.proofs.Common.{◌≡◌, ◌≤◌, ◌<◌, inl, inr, ℕ, zero, suc, List, [], ◌∷◌, ◌++◌, length, take, drop, refl, sym, ap, subst, ◌∙◌, arith, append_assoc}
 use Rattle.std.proofs.lemmas.Bool.{cases_lt}
 use Rattle.std.proofs.lemmas.List.{take-append-drop}
 use Rattle.std.proofs.Math.Seq.{take-length}
@@ -35,7 +35,7 @@ begins-fewer kept fewer m n ks less le begins =
     let more = begins.2 in
     let front : take n ks ≡ take m ks ++ drop m (take n ks) = sym (take-append-drop m (take n ks)) ∙ ap (λ front. front ++ drop m (take n ks)) (take-fewer m n ks le) in
     let whole : kinds_of tokens ≡ take m ks ++ (drop m (take n ks) ++ more) =
-        begins.3 ∙ ap (λ front. front ++ more) front ∙ append_assoc (take m ks) (drop m (take n ks)) more in
+    begins.3 ∙ ap (λ front. front ++ more) front ∙ append_assoc (take m ks) (drop m (take n ks)) more in
     (tokens, begins.1, drop m (take n ks) ++ more, whole, limited-fewer fewer kept tokens less begins.4, begins.5)
 
 -- a program within the limits begins itself, with any number of its tokens
@@ -62,8 +62,8 @@ expected-before : (ks : List Kind) (j k : ℕ) → j < k → IsExpectedAt ks k �
 expected-before ks j k below expected = elim expected [
   | inl inside ↦ begins-fewer 0 0 (suc j) k ks (omega arith) (omega (arith, below)) inside.1
   | inr behind ↦
-    let whole : Begins (take k ks) = subst (λ xs. Begins xs) (sym (ap (λ n. take n ks) behind.0 ∙ take-length ks)) behind.1 in
-    begins-fewer 0 0 (suc j) k ks (omega arith) (omega (arith, below)) whole
+      let whole : Begins (take k ks) = subst (λ xs. Begins xs) (sym (ap (λ n. take n ks) behind.0 ∙ take-length ks)) behind.1 in
+      begins-fewer 0 0 (suc j) k ks (omega arith) (omega (arith, below)) whole
 ]
 
 expected-within : (ks : List Kind) (k : ℕ) → IsExpectedAt ks k → k ≤ length ks

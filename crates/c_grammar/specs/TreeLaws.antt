@@ -1,13 +1,10 @@
 -- What is printed of each variant.
-use Rattle.std.proofs.Common.{◌≡◌, ℕ, Bool, List, [], ◌∷◌, ◌++◌, Option, None, Some, sym, ap, ◌∙◌}
+use Rattle.std.proofs.Common.{◌≡◌, ℕ, Bool, List, Option, None, Some, sym, ap, ◌∙◌}
 use Rattle.std.specs.Prelude.{map}
 use Rattle.std.specs.Option.{option_map}
 use Rattle.arrayvec.specs.ArrayString.{ArrayString}
 use Rattle.c_token.specs.declared.kinds.Kind.{Kind}
-use Rattle.c_token.specs.declared.kinds.Kind.TheVariants as kinds
-use Rattle.c_token.specs.declared.words.Word.TheVariants as words
 use Rattle.c_token.specs.declared.signs.Sign.{Sign}
-use Rattle.c_token.specs.declared.signs.Sign.TheVariants as signs
 use Rattle.c_grammar.specs.declared.expr.Expr.{Expr}
 use Rattle.c_grammar.specs.declared.expr.Expr.TheVariants as exprs
 use Rattle.c_grammar.specs.declared.expr.Expr.TheOpen.{Expr-F}
@@ -16,7 +13,7 @@ use Rattle.c_grammar.specs.declared.stmt.Stmt.{Stmt}
 use Rattle.c_grammar.specs.declared.stmt.Stmt.TheVariants as stmts
 use Rattle.c_grammar.specs.declared.stmt.Stmt.TheOpen.{Stmt-F}
 use Rattle.c_grammar.specs.declared.stmt.Stmt.TheFolds.{fold-roll-Stmt}
-use Rattle.c_grammar.specs.Printed.{Standing, expr_step, expr_kinds, stmt_step, stmt_kinds, with_commas}
+use Rattle.c_grammar.specs.Printed.{Standing, expr_step, expr_kinds, stmt_step, stmt_kinds}
 
 pub expr_kinds-Number : (value : ℕ) (unsigned : Bool) (token : ℕ) → expr_kinds (exprs.Number value unsigned token) ≡ expr_step (Expr-F.Number value unsigned token)
 expr_kinds-Number value unsigned token = ap expr_kinds (sym (exprs.rolls-Number value unsigned token)) ∙ fold-roll-Expr (List Kind) expr_step (Expr-F.Number value unsigned token)

@@ -1,13 +1,12 @@
 -- Tokens in form that keep the limit.
-use Rattle.std.proofs.Common.{◌≡◌, ◌≤◌, ℕ, Bool, true, List, [], ◌∷◌, ◌++◌, refl, ap, ◌∙◌}
-use Rattle.std.specs.Prelude.{map}
+use Rattle.std.proofs.Common.{◌≡◌, ◌≤◌, true, List, [], ◌∷◌, ◌++◌, refl, ap, ◌∙◌}
 use Rattle.std.specs.List.{list_all}
 use Rattle.std.proofs.lemmas.Bool.{and_from, and_parts}
 use Rattle.std.proofs.lemmas.List.{map-append}
 use Rattle.c_token.specs.declared.Kind.{Kind}
 use Rattle.c_token.specs.Lexemes.{lexeme_of}
 use Rattle.c_token.specs.Plain.{is_in_form}
-use Rattle.c_grammar.specs.Tokens.{Spot, Bounded, kinds_of, numbered, bounded_all}
+use Rattle.c_grammar.specs.Tokens.{Bounded, kinds_of}
 use Rattle.c_grammar.specs.Places.{limit, AreLimited}
 use Rattle.c_grammar.specs.AlikeKinds.{lexemes_in}
 

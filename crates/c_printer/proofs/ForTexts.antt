@@ -1,5 +1,5 @@
 -- The text of a `for`, head and body.
-use Rattle.std.proofs.Common.{◌≡◌, ℕ, List, [], ◌∷◌, ◌++◌, Option, Some, sym, ap, ◌∙◌, append_assoc}
+use Rattle.std.proofs.Common.{◌≡◌, ℕ, List, ◌++◌, Option, Some, sym, ap, ◌∙◌, append_assoc}
 use Rattle.std.specs.Prelude.{option_map}
 use Rattle.std.proofs.lemmas.List.Concat.{flat_map-append}
 use Rattle.c_token.specs.declared.kinds.Kind.{Kind}
@@ -7,7 +7,7 @@ use Rattle.c_grammar.specs.declared.Expr.{Expr}
 use Rattle.c_grammar.specs.declared.Stmt.{Stmt}
 use Rattle.c_grammar.specs.declared.stmt.Stmt.TheVariants.{For}
 use Rattle.c_grammar.specs.declared.stmt.Stmt.TheOpen.{Stmt-F}
-use Rattle.c_grammar.specs.Printed.{stmt_step, stmt_kinds, head_kinds, maybe_kinds, in_code}
+use Rattle.c_grammar.specs.Printed.{stmt_step, stmt_kinds, head_kinds, in_code}
 use Rattle.c_grammar.specs.TreeLaws.{stmt_kinds-For}
 use Rattle.c_printer.specs.Printing.{spelled, spelled_all, head_begin_kinds, head_end_kinds}
 

@@ -3,11 +3,9 @@ use Rattle.std.proofs.Common.{◌≡◌, ℕ, List, [], ◌∷◌, ◌++◌, ref
 use Rattle.std.specs.Prelude.{map}
 use Rattle.std.proofs.lemmas.List.{append-nil}
 use Rattle.c_token.specs.declared.Kind.TheVariants as kinds
-use Rattle.c_token.specs.declared.Kind.{Kind}
-use Rattle.c_token.specs.declared.Word.TheVariants as words
 use Rattle.c_token.specs.declared.Sign.TheVariants as signs
 use Rattle.c_grammar.specs.declared.Expr.{Expr}
-use Rattle.c_grammar.specs.Tokens.{Bounded, kinds_of, name, sign, word}
+use Rattle.c_grammar.specs.Tokens.{Bounded, kinds_of, sign}
 use Rattle.c_grammar.specs.Expressions.{Expression, Binary, Unary, Primary, Arguments, Listed}
 use Rattle.c_grammar.specs.Printed.{expr_kinds, with_commas, behind_commas, arguments_kinds}
 use Rattle.c_grammar.specs.TreeLaws as laws

@@ -1,9 +1,10 @@
 -- A program is read again from its printed tokens.
-use Rattle.std.proofs.Common.{◌≡◌, ◌≤◌, ℕ, zero, Bool, true, false, List, [], ◌∷◌, ◌++◌, Option, Some, None, refl, sym, ap, ◌∙◌, append_assoc, arith}
-use Rattle.std.specs.Prelude.{map, nat_lt, nat_le, ◌||◌, ◌&&◌, if◌then◌else◌}
+use Rattle.std.proofs.Common.{◌≡◌, ◌≤◌, ℕ, Bool, true, false, List, [], ◌∷◌, ◌++◌, Option, refl, sym, ap, ◌∙◌, append_assoc, arith}
+use Rattle.std.specs.Prelude.{map, nat_lt, nat_le, ◌||◌, if◌then◌else◌}
 use Rattle.std.proofs.lemmas.List.{append-nil}
 use Rattle.std.proofs.lemmas.Bool.{and_from, and_parts}
 use Rattle.std.proofs.lemmas.Bool.Decides.{nat_tests}
+use Rattle.arrayvec.specs.ArrayString.{ArrayString}
 use Rattle.c_token.specs.declared.Kind.{Kind}
 use Rattle.c_token.specs.declared.Kind.TheVariants as kinds
 use Rattle.c_token.specs.declared.Word.TheVariants as words
@@ -12,7 +13,6 @@ use Rattle.c_token.specs.Lexemes.{number}
 use Rattle.c_token.specs.Plain.{is_in_form}
 use Rattle.c_grammar.specs.declared.Stmt.{Stmt}
 use Rattle.c_grammar.specs.declared.Item.{Item}
-use Rattle.c_grammar.specs.declared.item.Item.TheVariants as items
 use Rattle.c_grammar.specs.declared.Storage.{Storage}
 use Rattle.c_grammar.specs.declared.Kind3.{Kind3}
 use Rattle.c_grammar.specs.declared.Value.{Value}
@@ -130,6 +130,27 @@ printed_private : {ts : List Bounded} {is_private : Bool} → IsPrivate ts is_pr
 printed_private IsPrivate.nothing = refl
 printed_private (IsPrivate.given at) = refl
 
+-- the kinds of a function's parts
+signature : (list block : List Bounded) (right start end : Spot) (params : List Parameter) (body : List Stmt)
+    → kinds.Sign signs.LeftParenthesis ∷ (kinds_of list ++ kinds.Sign signs.RightParenthesis ∷ []) ≡ parameters_kinds params
+    → kinds_of block ≡ in_a_row (map stmt_kinds body)
+    → kinds.Sign signs.LeftParenthesis ∷ kinds_of (list ++ sign right signs.RightParenthesis ∷ sign start signs.LeftBrace ∷ (block ++ sign end signs.RightBrace ∷ []))
+    ≡ parameters_kinds params ++ block_kinds body
+signature list block right start end params body e f =
+    ap (λ ks. kinds.Sign signs.LeftParenthesis ∷ ks)
+    (piece list (sign right signs.RightParenthesis ∷ sign start signs.LeftBrace ∷ (block ++ sign end signs.RightBrace ∷ [])) refl
+    ∙ ap (λ ks. kinds_of list ++ kinds.Sign signs.RightParenthesis ∷ kinds.Sign signs.LeftBrace ∷ ks) (piece block (sign end signs.RightBrace ∷ []) f)
+    ∙ sym (append_assoc (kinds_of list) (kinds.Sign signs.RightParenthesis ∷ []) (block_kinds body)))
+    ∙ ap (λ ks. ks ++ block_kinds body) e
+
+function_kinds : (ts : List Bounded) (answer : Bounded) (rest : List Bounded) (before : List Kind) (first : Kind) (text : ArrayString) (at : Spot) (more : List Kind)
+    → kinds_of ts ≡ before → answer.kind ≡ first → kinds_of rest ≡ more
+    → kinds_of (ts ++ answer ∷ name at text ∷ rest) ≡ before ++ first ∷ kinds.Name text ∷ more
+function_kinds ts answer rest before first text at more e f g =
+    piece ts (answer ∷ name at text ∷ rest) e
+    ∙ ap (λ k. before ++ k ∷ kinds.Name text ∷ kinds_of rest) f
+    ∙ ap (λ ks. before ++ first ∷ kinds.Name text ∷ ks) g
+
 abbrev PrintedItem : Item → Type 0
 PrintedItem x = (us : List Bounded) × (IsItem us x × (kinds_of us ≡ item_kinds x) × AreFine us)
 
@@ -181,25 +202,11 @@ printed_item (IsItem.function {ts = ts} {us = us} {vs = vs} {ws = ws} {is_privat
       ts ++ tail,
       (
         IsItem.function at left right start end text d answer.1.0 list.1.0 block.1.0,
-        piece ts tail (printed_private d)
-            ∙ ap (λ ks. (if is_private then kinds.Word words.Private ∷ [] else []) ++ ks)
-            (ap (λ k. k ∷ kinds_of (name at text ∷ sign left signs.LeftParenthesis ∷ (list.0 ++ tail2))) answer.1.1
-            ∙ ap (λ ks. result_kind result ∷ kinds.Name text ∷ ks) (signature list.0 block.0 right start end params body list.1.1 block.1.1)),
+        function_kinds ts answer.0 (sign left signs.LeftParenthesis ∷ (list.0 ++ tail2)) (if is_private then kinds.Word words.Private ∷ [] else []) (result_kind result) text at
+            (parameters_kinds params ++ block_kinds body) (printed_private d) answer.1.1 (signature list.0 block.0 right start end params body list.1.1 block.1.1),
         fine-join ts tail p1.0 (answer.1.2, (p2.1.0, (p2.1.1.0, fine-join list.0 tail2 list.1.2 (p3.1.0, (p3.1.1.0, fine-join block.0 (sign end signs.RightBrace ∷ []) block.1.2 p4.1))))),
       ),
     )
-  where
-    signature : (list block : List Bounded) (right start end : Spot) (params : List Parameter) (body : List Stmt)
-        → kinds.Sign signs.LeftParenthesis ∷ (kinds_of list ++ kinds.Sign signs.RightParenthesis ∷ []) ≡ parameters_kinds params
-        → kinds_of block ≡ in_a_row (map stmt_kinds body)
-        → kinds.Sign signs.LeftParenthesis ∷ kinds_of (list ++ sign right signs.RightParenthesis ∷ sign start signs.LeftBrace ∷ (block ++ sign end signs.RightBrace ∷ []))
-        ≡ parameters_kinds params ++ block_kinds body
-    signature list block right start end params body e f =
-        ap (λ ks. kinds.Sign signs.LeftParenthesis ∷ ks)
-        (piece list (sign right signs.RightParenthesis ∷ sign start signs.LeftBrace ∷ (block ++ sign end signs.RightBrace ∷ [])) refl
-        ∙ ap (λ ks. kinds_of list ++ kinds.Sign signs.RightParenthesis ∷ kinds.Sign signs.LeftBrace ∷ ks) (piece block (sign end signs.RightBrace ∷ []) f)
-        ∙ sym (append_assoc (kinds_of list) (kinds.Sign signs.RightParenthesis ∷ []) (block_kinds body)))
-        ∙ ap (λ ks. ks ++ block_kinds body) e
 
 abbrev PrintedItems : List Item → Type 0
 PrintedItems xs = (us : List Bounded) × (AreItems us xs × (kinds_of us ≡ items_kinds xs) × AreFine us)

@@ -1,19 +1,15 @@
 -- A statement is read again from its printed tokens, which stand where it was read from.
-use Rattle.std.proofs.Common.{◌≡◌, ◌≤◌, ◌<◌, ℕ, suc, Bool, true, false, List, [], ◌∷◌, ◌++◌, Option, Some, None, refl, sym, ap, ◌∙◌, append_assoc}
+use Rattle.std.proofs.Common.{◌≡◌, ℕ, Bool, List, [], ◌∷◌, ◌++◌, Option, Some, None, refl, sym, ap, ◌∙◌, append_assoc}
 use Rattle.std.specs.Prelude.{map, option_map}
 use Rattle.std.proofs.lemmas.List.{append-nil}
-use Rattle.arrayvec.specs.ArrayString.{ArrayString}
-use Rattle.c_token.specs.declared.Kind.{Kind}
 use Rattle.c_token.specs.declared.Kind.TheVariants as kinds
 use Rattle.c_token.specs.declared.Word.TheVariants as words
 use Rattle.c_token.specs.declared.Sign.TheVariants as signs
 use Rattle.c_grammar.specs.declared.Expr.{Expr}
 use Rattle.c_grammar.specs.declared.Stmt.{Stmt}
-use Rattle.c_grammar.specs.declared.stmt.Stmt.TheVariants as s
-use Rattle.c_grammar.specs.Places.{limit}
 use Rattle.c_grammar.specs.Tokens.{Spot, Bounded, kinds_of, name, sign, word}
 use Rattle.c_grammar.specs.Statements.{IsType, Local, Simple, First, Step, Maybe, Statement, Body}
-use Rattle.c_grammar.specs.Printed.{Standing, in_code, in_head, ending, type_kind, expr_kinds, maybe_kinds, head_kinds, else_kinds, initial_kinds, arguments_kinds, stmt_kinds, in_a_row}
+use Rattle.c_grammar.specs.Printed.{in_code, in_head, type_kind, expr_kinds, maybe_kinds, head_kinds, initial_kinds, arguments_kinds, stmt_kinds, in_a_row}
 use Rattle.c_grammar.specs.TreeLaws as laws
 use Rattle.c_printer.proofs.FineTokens.{IsFine, AreFine, fine-append, fine-join, piece}
 use Rattle.c_printer.proofs.PrintedExpressions.{printed_expression, printed_arguments}

@@ -1,13 +1,12 @@
 -- The text of a program is read back as the same program.
-use Rattle.std.proofs.Common.{◌≡◌, ℕ, List, [], ◌∷◌, Result, Ok, Err, true, refl, ap, sym, ◌∙◌}
+use Rattle.std.proofs.Common.{◌≡◌, List, [], ◌∷◌, Result, Ok, Err, true, refl, ap, sym, ◌∙◌}
 use Rattle.std.specs.Prelude.{map, IsOk}
 use Rattle.std.specs.List.{list_all}
-use Rattle.c_token.specs.declared.Kind.{Kind}
 use Rattle.c_token.specs.declared.Token.{Token}
 use Rattle.c_token.specs.declared.TokenError.{TokenError}
-use Rattle.c_token.specs.Lexemes.{Lexeme, Placed, lexeme_of, placed_all}
+use Rattle.c_token.specs.Lexemes.{Placed, lexeme_of, placed_all}
 use Rattle.c_token.specs.Tokens.{tokens_of}
-use Rattle.c_token.specs.Plain.{is_in_form, lexemes_of, plain_text, plain_placed, PlainTextReadsBack}
+use Rattle.c_token.specs.Plain.{is_in_form, lexemes_of, plain_placed, PlainTextReadsBack}
 use Rattle.c_grammar.specs.declared.Program.{Program}
 use Rattle.c_grammar.specs.Tokens.{Bounded, kinds_of, numbered, bounded_all}
 use Rattle.c_grammar.specs.Places.{limit, Reads}

@@ -1,7 +1,6 @@
 -- The worked program is one that the grammar gives to tokens in form.
-use Rattle.std.proofs.Common.{◌≡◌, ℕ, ◌+◌, ◌<◌, Bool, true, false, List, [], ◌∷◌, ◌++◌, refl, sym, subst, arith}
+use Rattle.std.proofs.Common.{◌≡◌, ℕ, ◌+◌, true, false, List, [], ◌∷◌, refl, sym, subst, arith}
 use Rattle.std.specs.Prelude.{codes}
-use Rattle.std.specs.List.{list_all}
 use Rattle.arrayvec.specs.ArrayString.{ArrayString}
 use Rattle.c_token.specs.declared.Kind.{Kind}
 use Rattle.c_token.specs.declared.Kind.TheVariants as kinds

@@ -1,7 +1,6 @@
 -- A worked program: `int main(void){release(72);release(105);return 0;}`.
-use Rattle.std.specs.Prelude.{ℕ, ◌+◌, false, List, [], ◌∷◌, Some}
+use Rattle.std.specs.Prelude.{ℕ, ◌+◌, false, [], ◌∷◌, Some}
 use Rattle.arrayvec.specs.ArrayString.{ArrayString}
-use Rattle.c_grammar.specs.declared.Expr.{Expr}
 use Rattle.c_grammar.specs.declared.expr.Expr.TheVariants.{Number}
 use Rattle.c_grammar.specs.declared.Stmt.{Stmt}
 use Rattle.c_grammar.specs.declared.stmt.Stmt.TheVariants.{Release, Return}
