@@ -146,8 +146,8 @@ fn loads_and_stores(rt: HostRuntime) -> Result<(), Fail> {
             core.set_register(4, at + 4);
             core.set_register(5, 0x8083_8281);
             core.set_register(6, 0x1234_56fe);
-            let mut port = NO_PORT;
             for _ in 0..3 {
+                let mut port = NO_PORT;
                 let end = step(&mut core, &mut mem, &mut port);
                 assert_eq!(rt; end, StepEnd::Next);
             }
@@ -159,25 +159,25 @@ fn loads_and_stores(rt: HostRuntime) -> Result<(), Fail> {
 
 #[test]
 fn does_secure_instructions(rt: HostRuntime) -> Result<(), Fail> {
-    for (f, end) in [
-        (0, StepEnd::Enter),
-        (1, StepEnd::Exit),
-        (2, StepEnd::Suspend),
-        (3, StepEnd::Resume),
-        (4, StepEnd::Private(true)),
-        (5, StepEnd::Private(false)),
-        (6, StepEnd::Released(0x82)),
-        (7, StepEnd::Input),
-        (8, StepEnd::Check),
-        (9, StepEnd::Index(0x8182)),
-        (10, StepEnd::Divide(0x8182)),
+    for (word, end) in [
+        (0x7000_0000, StepEnd::Enter),
+        (0x7000_0001, StepEnd::Exit),
+        (0x7000_0002, StepEnd::Suspend),
+        (0x7000_0003, StepEnd::Resume),
+        (0x7000_0004, StepEnd::Private(true)),
+        (0x7000_0005, StepEnd::Private(false)),
+        (0x7000_0006, StepEnd::Released(0x82)),
+        (0x7000_0007, StepEnd::Input),
+        (0x7000_0008, StepEnd::Check),
+        (0x7000_0009, StepEnd::Index(0x8182)),
+        (0x7000_000a, StepEnd::Divide(0x8182)),
     ] {
-        let mut mem = memory_of(rt.alloc(), [0x7000_0000 + f, 0, 0, 0])?;
+        let mut mem = memory_of(rt.alloc(), [word, 0, 0, 0])?;
         let mut core = Core::new(CODE);
         core.set_register(3, 0x8182);
         let mut port = NO_PORT;
-        assert_eq!(rt; step(&mut core, &mut mem, &mut port), end, "{f}");
-        assert_eq!(rt; core.pc, CODE + 4, "{f}");
+        assert_eq!(rt; step(&mut core, &mut mem, &mut port), end, "{word:08x}");
+        assert_eq!(rt; core.pc, CODE + 4, "{word:08x}");
     }
     Ok(())
 }
@@ -185,17 +185,18 @@ fn does_secure_instructions(rt: HostRuntime) -> Result<(), Fail> {
 #[test]
 fn reads_the_port(rt: HostRuntime) -> Result<(), Fail> {
     let input = 0x7000_0007;
-    let mut mem = memory_of(rt.alloc(), [input, input, input, 0])?;
+    let mut mem = memory_of(rt.alloc(), [input, input, 0, 0])?;
     let mut core = Core::new(CODE);
     let mut port = Port {
         input: b"\xfe",
         next: 0,
     };
-    for (word, next) in [(0xfe, 1), (u32::MAX, 1), (u32::MAX, 1)] {
-        assert_eq!(rt; step(&mut core, &mut mem, &mut port), StepEnd::Input);
-        assert_eq!(rt; core.register(11), word);
-        assert_eq!(rt; port.next, next);
-    }
+    assert_eq!(rt; step(&mut core, &mut mem, &mut port), StepEnd::Input);
+    assert_eq!(rt; core.register(11), 0xfe);
+    assert_eq!(rt; port.next, 1);
+    assert_eq!(rt; step(&mut core, &mut mem, &mut port), StepEnd::Input);
+    assert_eq!(rt; core.register(11), u32::MAX);
+    assert_eq!(rt; port.next, 1);
     Ok(())
 }
 
