@@ -1,4 +1,4 @@
-use Rattle.std.proofs.Common.{◌≡◌, ◌<◌, ap, arith}
+use Rattle.std.proofs.Common.{ap, arith}
 use Rattle.off_chip.specs.Memory.{blocks_of_tree}
 use Rattle.off_chip.proofs.tests.answers_with_the_last_write_or_the_load.Goals as goal
 
