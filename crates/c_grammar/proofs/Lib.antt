@@ -1,1 +1,2 @@
 mod PrintedExamples
+mod Worked
