@@ -1,10 +1,10 @@
 -- The text of a program is read back as the same program.
-use Rattle.std.proofs.Common.{◌≡◌, List, [], ◌∷◌, Result, Ok, Err, true, refl, ap, sym, ◌∙◌}
+use Rattle.std.proofs.Common.{◌≡◌, List, Result, Ok, Err, true, refl, ap, sym, ◌∙◌}
 use Rattle.std.specs.Prelude.{map, IsOk}
 use Rattle.std.specs.List.{list_all}
 use Rattle.c_token.specs.declared.Token.{Token}
 use Rattle.c_token.specs.declared.TokenError.{TokenError}
-use Rattle.c_token.specs.Lexemes.{Placed, lexeme_of, placed_all}
+use Rattle.c_token.specs.Lexemes.{Placed, placed_all}
 use Rattle.c_token.specs.Tokens.{tokens_of}
 use Rattle.c_token.specs.Plain.{is_in_form, lexemes_of, plain_placed, PlainTextReadsBack}
 use Rattle.c_grammar.specs.declared.Program.{Program}
@@ -16,13 +16,9 @@ use Rattle.c_grammar.specs.Printed.{program_kinds}
 use Rattle.c_grammar.specs.AlikeKinds.{lexemes_in, alike_numbered, numbered_limited, kinds-numbered}
 use Rattle.c_grammar.specs.AlikePrograms.{same_program}
 use Rattle.c_printer.specs.Printing.{program_text, IsPrintable, ReadsBack}
+use Rattle.c_printer.specs.Printable.{lexemes-placed}
 use Rattle.c_printer.proofs.FineTokens.{AreFine, fine_from, fine_limited, fine_in_form}
 use Rattle.c_printer.proofs.PrintedPrograms.{printed_program}
-
--- the lexemes of tokens
-lexemes-placed : (tokens : List Token) → lexemes_of (placed_all tokens) ≡ lexemes_in (map (λ token. token.kind) tokens)
-lexemes-placed [] = refl
-lexemes-placed (token ∷ tokens) = ap (λ lexemes. lexeme_of token.kind ∷ lexemes) (lexemes-placed tokens)
 
 -- plain texts read back, as the law of tokens says
 module _ (law : PlainTextReadsBack) (program : Program) (printable : IsPrintable program) where
