@@ -20,7 +20,7 @@ use std::marker::Model;
 ///
 /// A `start` change is done when the memory is made, and an `at` change before the first event that comes when
 /// there were at least so many. The suspensions are counted from 0, and a `suspend` change is done right behind its own.
-/// Each event costs the same, however many changes the script has.
+/// The script is gone through once in the whole run, so an event costs the same, however many changes it has.
 #[derive(Drop)]
 pub struct ScriptedDram {
     storage: Storage,
