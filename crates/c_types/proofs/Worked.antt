@@ -1,5 +1,5 @@
 -- The definitions on small programs.
-use Rattle.std.proofs.Common.{◌≡◌, ℕ, true, false, List, [], ◌∷◌, codes, Some, None}
+use Rattle.std.proofs.Common.{◌≡◌, ℕ, true, false, List, [], ◌∷◌, codes, Some, None, refl}
 use Rattle.arrayvec.specs.ArrayString.{ArrayString}
 use Rattle.c_grammar.specs.declared.expr.Expr.TheVariants as expr
 use Rattle.c_grammar.specs.declared.stmt.Stmt.TheVariants as stmt
@@ -10,8 +10,14 @@ use Rattle.c_types.specs.declared.declaration.Binding.{Binding}
 use Rattle.c_types.specs.declared.declaration.Entity.TheVariants.{Local}
 use Rattle.c_types.specs.declared.site.How.TheVariants.{Value, Assign, CallValue}
 use Rattle.c_types.specs.declared.site.Site.TheVariants as site
+use Rattle.c_types.specs.declared.site.Rule.TheVariants.{Unknown, Twice, Recursive}
 use Rattle.c_types.specs.Sites.{item_sites, declaration_of}
+use Rattle.c_types.specs.Rules.{Violates}
+use Rattle.c_types.specs.Rules.Breaks.{unknown, twice_local, self_call as calls_itself}
+use Rattle.c_types.specs.Rules.Violates.{by_site}
+use Rattle.c_types.specs.Checked.{KeepsRules, has_main}
 use Rattle.c_types.proofs.Equations.{expr_forms, stmt_forms}
+use Rattle.c_types.proofs.Exact.{none_is}
 
 abbrev named : List ℕ → ArrayString
 named bytes = record { bytes = bytes; spare = [] }
@@ -27,7 +33,22 @@ self_call_sites : item_sites [] self_call ≡
     ∷ []
 self_call_sites = simp (expr_forms, stmt_forms)
 
--- `int f(int a){int b=b;{int a;a=b;}for(int a=a;;)break;int a;c;}`, a local in its own value, a parameter hidden in a block and declared again
+-- It breaks the rule against recursion at token 7.
+self_call_violates : Violates (record { items = self_call ∷ [] }) 7 Recursive
+self_call_violates =
+    by_site [] self_call (site.Global 0 false 1 ∷ site.Return Int true 6 ∷ [])
+      (site.Use (CallValue 0) (Some (declaration_of self_call).binding) (record { private = false; result = Int; token = 1 }) 7)
+      (record { behind = []; all = refl }) (record { back = []; all = self_call_sites }) refl
+      (calls_itself (CallValue 0) (declaration_of self_call).binding (record { private = false; result = Int; token = 1 }) 7 refl refl)
+
+-- An empty program breaks no rule, and has no `main`.
+empty_keeps : KeepsRules (record { items = [] })
+empty_keeps = none_is (record { items = [] }) refl
+
+empty_has_no_main : has_main [] ≡ false
+empty_has_no_main = refl
+
+-- `int f(int a){int b=b;{int a;a=b;}for(int a=a;;)break;int a;}`, a local in its own value, a parameter hidden in a block and declared again
 -- in the outermost one, and the end of scopes
 abbrev scopes : Item
 scopes = item.Function false Int (named (codes "f")) (record { unsigned = false; name = named (codes "a"); token = 4 } ∷ [])
@@ -54,3 +75,38 @@ scopes_sites : item_sites [] scopes ≡
     ∷ site.Local true 33
     ∷ []
 scopes_sites = simp (expr_forms, stmt_forms)
+
+-- The local is not known in its own value, and the parameter is declared again in the outermost block.
+own_value_violates : Violates (record { items = scopes ∷ [] }) 10 Unknown
+own_value_violates =
+    by_site [] scopes (site.Global 0 false 1 ∷ site.Parameter 0 false 4 ∷ site.Local false 8 ∷ [])
+      (site.Use Value None (record { private = false; result = Int; token = 1 }) 10)
+      (record { behind = []; all = refl })
+      (record {
+        back = site.Local false 14
+            ∷ site.Use Assign (Some (bound 14)) (record { private = false; result = Int; token = 1 }) 16
+            ∷ site.Use Value (Some (bound 8)) (record { private = false; result = Int; token = 1 }) 18
+            ∷ site.Local false 24
+            ∷ site.Use Value (Some (bound 4)) (record { private = false; result = Int; token = 1 }) 26
+            ∷ site.Jump true 30
+            ∷ site.Local true 33
+            ∷ [];
+        all = scopes_sites;
+      })
+      refl (unknown Value (record { private = false; result = Int; token = 1 }) 10)
+
+again_violates : Violates (record { items = scopes ∷ [] }) 33 Twice
+again_violates =
+    by_site [] scopes
+      (site.Global 0 false 1
+      ∷ site.Parameter 0 false 4
+      ∷ site.Local false 8
+      ∷ site.Use Value None (record { private = false; result = Int; token = 1 }) 10
+      ∷ site.Local false 14
+      ∷ site.Use Assign (Some (bound 14)) (record { private = false; result = Int; token = 1 }) 16
+      ∷ site.Use Value (Some (bound 8)) (record { private = false; result = Int; token = 1 }) 18
+      ∷ site.Local false 24
+      ∷ site.Use Value (Some (bound 4)) (record { private = false; result = Int; token = 1 }) 26
+      ∷ site.Jump true 30
+      ∷ [])
+      (site.Local true 33) (record { behind = []; all = refl }) (record { back = []; all = scopes_sites }) refl (twice_local 33)
