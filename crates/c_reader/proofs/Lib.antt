@@ -1,11 +1,15 @@
-pub mod Steps
-pub mod Blanks
-pub mod Exact
-pub mod WordReaders
-pub mod Numbers
-pub mod Statements
-pub mod Spelling
-pub mod Complete
-pub mod Loop
-pub mod Places
-pub mod Examples
+mod Read
+mod Holds
+mod Lists
+mod Chains
+mod Expressing
+mod Comes
+mod ComesLists
+mod Comprehending
+mod Stating
+mod Bodies
+mod Declaring
+mod Understanding
+pub mod Loops
+mod Recognising
+pub mod Answered

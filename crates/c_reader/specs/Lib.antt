@@ -1,2 +1,7 @@
-pub mod Source
-pub mod Reading
+pub mod Toks
+pub mod Parser
+pub mod Expressions
+pub mod Statements
+pub mod Programs
+pub mod Reads
+pub mod Refusals

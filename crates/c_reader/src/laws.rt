@@ -1,7 +1,7 @@
-//! A law of source texts.
-ghost use Rattle.c_reader.specs.Source.{HasOneList};
+//! A law of the grammar.
+ghost use Rattle.c_reader.specs.Refusals.{OneProgram};
 
-/// No text can be read in two ways.
-pub fn release_one_list()
-    ensures one_list { HasOneList }
+/// Tokens are at most one program.
+pub fn one_program()
+    ensures one { OneProgram }
 {}

@@ -1,18 +1,18 @@
-//! Reads source texts that release literals one after another.
+//! Reads the tokens of a source text as a program.
 #![tactic(auto)]
 
+mod block;
+mod cursor;
 mod error;
+mod expression;
+mod fault;
+mod item;
 mod laws;
-mod number;
-mod program;
 mod reading;
-mod stop;
-mod words;
-
-pub use error::SyntaxError;
-pub use laws::release_one_list;
-pub use program::Program;
-pub use reading::read_text;
-
+mod statement;
 #[cfg(test)]
 mod tests;
+
+pub use error::SyntaxError;
+pub use laws::one_program;
+pub use reading::read_program;

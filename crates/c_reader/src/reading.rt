@@ -1,142 +1,58 @@
-//! The reader.
-ghost use Rattle.std.specs.Prelude.{◌≡◌, ◌≤◌, ◌⊎◌, ℕ, List, length, IfOk};
-ghost use Rattle.c_reader.specs.Source.{IsSource, IsFaultPlace};
-ghost use Rattle.c_reader.specs.Reading.{Gives, keyword_at, released_at, returned_at, statement_at, statements_at, header_at, body_at, source_at};
+//! The reader of programs.
+ghost use Rattle.std.specs.Prelude.{◌≡◌, ◌≤◌, length, map, IfOk, IfErr};
+ghost use Rattle.c_grammar.specs.Places.{Reads};
+ghost use Rattle.c_reader.specs.Toks.{numbered, kinds_of};
+ghost use Rattle.c_reader.specs.Programs.{program};
+ghost use Rattle.c_reader.specs.Reads.{Answers};
+ghost use Rattle.c_reader.specs.Refusals.{IsRefusedAs};
 
+use crate::cursor::Cursor;
 use crate::error::SyntaxError;
-use crate::number::amount;
-use crate::program::Program;
-use crate::stop::Stop;
-use crate::words::{after_blanks, blank, bytes, word};
-use aegis_num::limits::MAX_SOURCE_BYTES;
+use crate::fault::Fault;
+use crate::item::program;
+use aegis_num::limits::{MAX_BINARY_OPERATORS, MAX_NESTING, MAX_SOURCE_BYTES};
+use c_grammar::Program;
+use c_token::Token;
 use std::alloc::Global;
 
-/// Reads `return` or `release`, and answers whether it was `return`.
-#[tactic(auto, unfolding(crate::specs::Reading::keyword_at))]
-fn keyword(text: &[u8]) -> Result<(bool, &[u8]), Stop<'_>>
-    ensures { Gives (λ x. (x.0, x.1.now)) result (keyword_at text.now) }
+/// The answer of the parser on lists.
+fn answer(alloc: Global, tokens: &[Token]) -> Result<Program, SyntaxError>
+    requires { length tokens.now ≤ MAX_SOURCE_BYTES }
+    ensures { Answers result (length tokens.now)
+        (program MAX_BINARY_OPERATORS MAX_NESTING (numbered 0 (kinds_of tokens.now))) }
 {
-    let rest = word(b"re", text)?;
-    if let [b't', ..] = rest {
-        Ok((true, bytes(b"turn", rest)?))
-    } else {
-        Ok((false, bytes(b"lease", rest)?))
+    let count = tokens.len() as u32;
+    let mut cursor = Cursor::new(tokens);
+    match program(alloc, &mut cursor) {
+        Ok(program) => Ok(program),
+        Err(Fault::Expected) => Err(SyntaxError::Expected {
+            token: cursor.place_or(count),
+        }),
+        Err(Fault::Deep) => Err(SyntaxError::Deep {
+            token: cursor.place_or(count),
+        }),
+        Err(Fault::OutOfMemory) => Err(SyntaxError::OutOfMemory),
     }
 }
 
-/// Reads what follows `release`, and answers the literal.
-#[tactic(auto, unfolding(crate::specs::Reading::released_at))]
-fn released(text: &[u8]) -> Result<(u32, &[u8]), Stop<'_>>
-    ensures { Gives (λ x. (x.0, x.1.now)) result (released_at text.now) }
-{
-    let rest = word(b"(", text)?;
-    let (literal, rest) = amount(b")", rest)?;
-    let rest = word(b";", rest)?;
-    Ok((literal, rest))
-}
-
-/// Reads what follows `return`, and answers the number.
-#[tactic(auto, unfolding(crate::specs::Reading::returned_at))]
-fn returned(text: &[u8]) -> Result<(u32, &[u8]), Stop<'_>>
-    ensures { Gives (λ x. (x.0, x.1.now)) result (returned_at text.now) }
-{
-    let rest = blank(text)?;
-    let (returned, rest) = amount(b";", rest)?;
-    let rest = word(b"}", rest)?;
-    Ok((returned, rest))
-}
-
-/// Reads a release, and answers its literal, or the return, and answers `None`.
-#[tactic(auto, unfolding(crate::specs::Reading::statement_at))]
-fn statement(text: &[u8]) -> Result<(Option<u32>, &[u8]), Stop<'_>>
-    ensures { Gives (λ x. (x.0, x.1.now)) result (statement_at text.now) }
-{
-    let (is_return, rest) = keyword(text)?;
-    if is_return {
-        let (_returned, rest) = returned(rest)?;
-        Ok((None, rest))
-    } else {
-        let (literal, rest) = released(rest)?;
-        Ok((Some(literal), rest))
-    }
-}
-
-/// Reads the releases and the return, and answers the literals.
-fn statements(alloc: Global, text: &[u8]) -> Result<(Vec<u32>, &[u8]), Stop<'_>>
-    ensures { Gives (λ x. (x.0.items, x.1.now)) result (statements_at text.now) }
-{
-    let mut literals = Vec::new(alloc);
-    let mut rest = text;
-    loop {
-        let (statement, after) = statement(rest)?;
-        let Some(literal) = statement else {
-            return Ok((literals, after));
-        };
-        literals.push(literal)?;
-        rest = after;
-    }
-}
-
-/// Reads what stands before the first statement, and answers what is left.
-#[tactic(auto, unfolding(crate::specs::Reading::header_at))]
-fn header(text: &[u8]) -> Result<&[u8], Stop<'_>>
-    ensures { Gives (λ rest. (tt, rest.now)) result (header_at text.now) }
-{
-    let rest = word(b"int", text)?;
-    let rest = blank(rest)?;
-    let rest = word(b"main", rest)?;
-    let rest = word(b"(", rest)?;
-    let rest = word(b"void", rest)?;
-    let rest = word(b")", rest)?;
-    word(b"{", rest)
-}
-
-/// Reads the header and the statements, and answers the literals.
-#[tactic(auto, unfolding(crate::specs::Reading::body_at))]
-fn body(alloc: Global, text: &[u8]) -> Result<(Vec<u32>, &[u8]), Stop<'_>>
-    ensures { Gives (λ x. (x.0.items, x.1.now)) result (body_at text.now) }
-{
-    let rest = header(text)?;
-    statements(alloc, rest)
-}
-
-/// Reads a whole text, and answers the literals.
-#[tactic(auto, unfolding(crate::specs::Reading::source_at))]
-fn source(alloc: Global, text: &[u8]) -> Result<(Vec<u32>, &[u8]), Stop<'_>>
-    ensures { Gives (λ x. (x.0.items, x.1.now)) result (source_at text.now) }
-{
-    let (literals, rest) = body(alloc, text)?;
-    let rest = after_blanks(rest);
-    if !rest.is_empty() {
-        return Err(Stop::At(rest));
-    }
-    Ok((literals, rest))
-}
-
-/// Reads a source text of the first form: `int main(void){`, any number of `release(N);`,
-/// `return N;` and `}`, in this order. N is a decimal number below 2^32 with no leading zero. Spaces,
-/// tabs, carriage returns and line feeds may stand between its words, before the first and behind the
-/// last; at least one stands behind `int` and behind `return`.
+/// The program that all these tokens are (ISO/IEC 9899, sections 6.5, 6.8 and 6.9, in this profile). There is
+/// at most one. At most 64 levels are open at any token: a statement opens one, and so do an operator of one
+/// operand, an expression between parentheses, an index and the arguments of a call. One expression has at most
+/// 64 operators of two operands, those inside its parentheses, indexes and arguments aside.
+/// Tokens are counted from 0. There are at most `MAX_SOURCE_BYTES` of them, and they are read in a time that grows as
+/// their number.
 ///
 /// # Errors
 ///
-/// `NotYet` for each other text, with the place of the first byte that no source has there, and
-/// `OutOfMemory`.
-pub fn read_text(alloc: Global, text: &[u8]) -> Result<Program, SyntaxError>
-    requires { length text.now ≤ MAX_SOURCE_BYTES }
-    // What is read is a source with these literals.
-    ensures ok { IfOk result (λ program. IsSource text.now program) }
-    // A source is read with its literals, unless memory runs out.
-    ensures only { (literals : List ℕ) → IsSource text.now literals
-        → (result ≡ Ok literals) ⊎ (result ≡ Err SyntaxError.OutOfMemory) }
-    // The bytes before the fault begin some source, and no more bytes do.
-    ensures place { (at : ℕ) → result ≡ Err (SyntaxError.NotYet at) → IsFaultPlace text.now at }
+/// `Expected` names the first token with which the tokens up to it begin no program, or the number of tokens where
+/// they end too soon; no token before it nests too deep. `Deep` names the token that opens a 65th level, or is the
+/// 65th operator of its expression; the tokens up to it begin a program. `OutOfMemory` where memory runs out.
+pub fn read_program(alloc: Global, tokens: &[Token]) -> Result<Program, SyntaxError>
+    requires { length tokens.now ≤ MAX_SOURCE_BYTES }
+    // What is read is the program of these tokens, within the limits.
+    ensures read { IfOk result (λ p. Reads (map (λ t. t.kind) tokens.now) p) }
+    // What is refused is no program, and the fault stands where it is said to stand.
+    ensures refused { IfErr result (IsRefusedAs (map (λ t. t.kind) tokens.now)) }
 {
-    match source(alloc, text) {
-        Ok((literals, _rest)) => Ok(Program::new(literals)),
-        Err(Stop::At(rest)) => Err(SyntaxError::NotYet {
-            at: (text.len() - rest.len()) as u32,
-        }),
-        Err(Stop::OutOfMemory) => Err(SyntaxError::OutOfMemory),
-    }
+    answer(alloc, tokens)
 }

@@ -1,0 +1,6 @@
+-- Both programs are what the parser answers.
+use Rattle.c_reader.proofs.Answered.{one_program}
+use Rattle.c_reader.proofs.laws.one_program.Goals as goal
+
+pub returns : goal.returns
+returns c = record { one = one_program }
