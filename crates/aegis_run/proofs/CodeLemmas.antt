@@ -5,7 +5,7 @@ use Rattle.std.proofs.lemmas.List.{length-replicate}
 use Rattle.std.proofs.Math.ListN.{length-set}
 use Rattle.std.specs.List.{AllByRecursion}
 use Rattle.orbis_word.specs.declared.Instr.{Instr}
-use Rattle.orbis_word.specs.declared.Instr.TheVariants.{Movhi, Nop, Ori, Cust1}
+use Rattle.orbis_word.specs.declared.Instr.TheVariants.{Nop, Ori, Cust1}
 use Rattle.orbis_word.specs.Table.{IsInRange, word_of}
 use Rattle.regions.specs.declared.Access.TheVariants.{Fetch}
 use Rattle.regions.specs.declared.Mode.TheVariants.{Ptr}
@@ -16,7 +16,8 @@ use Rattle.orbis_core.specs.FlatMemory.{Flat, flat_of, word_at}
 use Rattle.orbis_core.specs.Processor.{Processor, register}
 use Rattle.orbis_core.specs.Refusals.{answered, word_refusal}
 use Rattle.orbis_core.specs.Words.{words_in}
-use Rattle.orbis_core.proofs.ProcessorLemmas.{register-with_register, or-halves}
+use Rattle.orbis_core.proofs.ProcessorLemmas.{register-with_register, register-with_register-other}
+use Rattle.std.specs.Int.Bits.{or_zero_l}
 use Rattle.aegis_num.specs.declared.limits.TheConstants.{MAX_SOURCE_BYTES}
 use Rattle.aegis_run.specs.Answer.{released}
 use Rattle.aegis_run.specs.Code.{CodeRunsTo, Fetches, HoldsCode, code_of, program_of, reset, straight_core, words_left, RunsTo}
@@ -33,16 +34,14 @@ replicate-AreWords : (count word : ℕ) → word < 2 ^ 32 → AreWords (replicat
 replicate-AreWords zero word below = tt
 replicate-AreWords (suc count) word below = (below, replicate-AreWords count word below)
 
-program-AreWords : (literals : List ℕ) → AreWords literals → AreWords (program_of literals)
-program-AreWords [] small = (omega arith, tt)
-program-AreWords (literal ∷ literals) small =
-    let bound : literal < 2 ^ 32 = small.0 in
-    (omega arith, (omega arith, (omega arith, program-AreWords literals small.1)))
+program-AreWords : (literals : List ℕ) → AreWords (program_of literals)
+program-AreWords [] = (omega arith, tt)
+program-AreWords (literal ∷ literals) = (omega arith, (omega arith, program-AreWords literals))
 
-pub code-AreWords : (literals : List ℕ) → AreWords literals → AreWords (code_of literals)
-code-AreWords literals small =
+pub code-AreWords : (literals : List ℕ) → AreWords (code_of literals)
+code-AreWords literals =
     append-AreWords (program_of literals) (replicate (words_left (length (program_of literals))) (word_of (Nop 0)))
-    (program-AreWords literals small) (replicate-AreWords (words_left (length (program_of literals))) (word_of (Nop 0)) (omega arith))
+    (program-AreWords literals) (replicate-AreWords (words_left (length (program_of literals))) (word_of (Nop 0)) (omega arith))
 
 -- a memory that holds code answers a fetch by the word there
 fetched-word : (memory : Flat) (code : List ℕ) (k at word : ℕ) → HoldsCode memory code → AreWords code → length code % 16 ≡ 0 → length code ≤ 16 * 6561 → k < length code
@@ -99,64 +98,75 @@ stands-next code before behind word core next fits at moved = record {
 -- how many steps the program of these literals has
 abbrev steps_of : List ℕ → ℕ
 steps_of [] = suc zero
-steps_of (literal ∷ literals) = suc (suc (suc (steps_of literals)))
+steps_of (literal ∷ literals) = suc (suc (steps_of literals))
 
-pub steps_of-length : (literals : List ℕ) → steps_of literals ≡ 3 * length literals + 1
+pub steps_of-length : (literals : List ℕ) → steps_of literals ≡ 2 * length literals + 1
 steps_of-length [] = refl
-steps_of-length (literal ∷ literals) = let rest : steps_of literals ≡ 3 * length literals + 1 = steps_of-length literals in omega arith
+steps_of-length (literal ∷ literals) = let rest : steps_of literals ≡ 2 * length literals + 1 = steps_of-length literals in omega arith
+
+-- there are 32 registers, and register 0 reads zero
+record IsWhole (core : Processor) : Type 0 where
+  registers : length core.registers ≡ 32
+  zero : register core 0 ≡ 0
+
+-- register 3 holds the low half of a literal, and register 0 still reads zero
+record Holds (core : Processor) (literal : ℕ) : Type 0 where
+  whole : IsWhole core
+  half : register core 3 ≡ literal % 65536
+
+holds-half : (core : Processor) (literal : ℕ) → IsWhole core → Holds (straight_core (effect_of (Ori 3 0 (literal % 65536)) core) core) literal
+holds-half core literal is =
+    let value : bit_or (register core 0) (literal % 65536) ≡ literal % 65536 = ap (λ n. bit_or n (literal % 65536)) is.zero ∙ or_zero_l (literal % 65536) in
+    let three : 3 < length core.registers = let count : length core.registers ≡ 32 = is.registers in omega arith in
+    record {
+      whole = record {
+        registers = simp length-set is.registers;
+        zero = register-with_register-other core 3 0 (bit_or (register core 0) (literal % 65536)) (λ e. cc) ∙ is.zero;
+      };
+      half = register-with_register core 3 (bit_or (register core 0) (literal % 65536)) (omega arith) three ∙ value;
+    }
+
+low_byte : (literal : ℕ) → literal % 65536 % 256 ≡ literal % 256
+low_byte literal = omega arith
 
 -- from the first word of the program of these literals the processor releases their low bytes, and exits
-runs-from : (memory : Flat) (code fill : List ℕ) → IsLoaded memory code → (literals before : List ℕ) (core : Processor) → length core.registers ≡ 32
-    → AreWords literals → StandsAt code before (program_of literals ++ fill) core
+runs-from : (memory : Flat) (code fill : List ℕ) → IsLoaded memory code → (literals before : List ℕ) (core : Processor) → IsWhole core
+    → StandsAt code before (program_of literals ++ fill) core
     → RunsTo memory (steps_of literals) core (map (λ n. n % 256) literals)
-runs-from memory code fill loaded [] before core registers small at =
+runs-from memory code fill loaded [] before core is at =
     (Cust1 1, fetched-stands memory code before _ (Cust1 1) core loaded (omega arith) at, inr refl, (refl, refl))
-runs-from memory code fill loaded (literal ∷ literals) before core registers small at =
-    let bound : literal < 2 ^ 32 = small.0 in
-    let high : Instr = Movhi 3 (literal / 65536) in
-    let low : Instr = Ori 3 3 (literal % 65536) in
+runs-from memory code fill loaded (literal ∷ literals) before core is at =
+    let low : Instr = Ori 3 0 (literal % 65536) in
     let release : Instr = Cust1 6 in
-    let loaded_core : Processor = straight_core (effect_of high core) core in
-    let whole : Processor = straight_core (effect_of low loaded_core) loaded_core in
-    let behind : Processor = straight_core (effect_of release whole) whole in
+    let half : Processor = straight_core (effect_of low core) core in
+    let behind : Processor = straight_core (effect_of release half) half in
     let later : List ℕ = program_of literals ++ fill in
-    let at_low : StandsAt code (before ++ word_of high ∷ []) (word_of low ∷ word_of release ∷ later) loaded_core = stands-next code before _ _ core loaded_core loaded.fits at refl in
-    let at_release : StandsAt code _ (word_of release ∷ later) whole = stands-next code _ _ _ loaded_core whole loaded.fits at_low refl in
-    let at_later : StandsAt code _ later behind = stands-next code _ _ _ whole behind loaded.fits at_release refl in
-    let three : 3 < length core.registers = omega arith in
-    let upper : register loaded_core 3 ≡ literal / 65536 * 65536 = register-with_register core 3 (literal / 65536 * 65536) (omega arith) three in
-    let kept : length whole.registers ≡ 32 = simp length-set registers in
-    let still : 3 < length loaded_core.registers = simp length-set three in
-    let held : register whole 3 ≡ literal =
-    register-with_register loaded_core 3 (bit_or (register loaded_core 3) (literal % 65536)) (omega arith) still
-    ∙ ap (λ n. bit_or n (literal % 65536)) upper ∙ or-halves literal in (
-      high,
-      fetched-stands memory code before _ high core loaded (omega arith, omega arith) at,
+    let at_release : StandsAt code (before ++ word_of low ∷ []) (word_of release ∷ later) half = stands-next code before _ _ core half loaded.fits at refl in
+    let at_later : StandsAt code _ later behind = stands-next code _ _ _ half behind loaded.fits at_release refl in
+    let held : Holds half literal = holds-half core literal is in
+    let byte : register half 3 % 256 ≡ literal % 256 = ap (λ n. n % 256) held.half ∙ low_byte literal in (
+      low,
+      fetched-stands memory code before _ low core loaded (omega arith, omega arith, omega arith) at,
       tt,
       (
-        low,
-        fetched-stands memory code _ _ low loaded_core loaded (omega arith, omega arith, omega arith) at_low,
-        tt,
+        release,
+        fetched-stands memory code _ _ release half loaded (omega arith) at_release,
+        inl refl,
         (
-          release,
-          fetched-stands memory code _ _ release whole loaded (omega arith) at_release,
-          inl refl,
-          (
-            map (λ n. n % 256) literals,
-            ap (λ byte. byte % 256 ∷ map (λ n. n % 256) literals) (sym held),
-            runs-from memory code fill loaded literals _ behind kept small.1 at_later,
-          ),
+          map (λ n. n % 256) literals,
+          ap (λ byte. byte ∷ map (λ n. n % 256) literals) (sym byte),
+          runs-from memory code fill loaded literals _ behind (record { registers = held.whole.registers; zero = held.whole.zero }) at_later,
         ),
       ),
     )
 
-length-program_of : (literals : List ℕ) → length (program_of literals) ≡ 3 * length literals + 1
+length-program_of : (literals : List ℕ) → length (program_of literals) ≡ 2 * length literals + 1
 length-program_of [] = refl
-length-program_of (literal ∷ literals) = let rest : length (program_of literals) ≡ 3 * length literals + 1 = length-program_of literals in omega arith
+length-program_of (literal ∷ literals) = let rest : length (program_of literals) ≡ 2 * length literals + 1 = length-program_of literals in omega arith
 
-length-code_of : (literals : List ℕ) → length (code_of literals) ≡ 3 * length literals + 1 + words_left (3 * length literals + 1)
+length-code_of : (literals : List ℕ) → length (code_of literals) ≡ 2 * length literals + 1 + words_left (2 * length literals + 1)
 length-code_of literals =
-    let program : length (program_of literals) ≡ 3 * length literals + 1 = length-program_of literals in
+    let program : length (program_of literals) ≡ 2 * length literals + 1 = length-program_of literals in
     length-append (program_of literals) _ ∙ ap (λ n. length (program_of literals) + n) (length-replicate (words_left (length (program_of literals))) (word_of (Nop 0)))
     ∙ ap (λ n. n + words_left n) program
 
@@ -164,13 +174,13 @@ length-code_of literals =
 pub record Compiled (code literals : List ℕ) : Type 0 where
   pub whole : length code % 16 ≡ 0
   pub short : length code ≤ 16 * 6561
-  pub steps : 3 * length literals + 1 ≤ length code
-  pub runs : CodeRunsTo code (3 * length literals + 1) (released literals)
+  pub steps : 2 * length literals + 1 ≤ length code
+  pub runs : CodeRunsTo code (2 * length literals + 1) (released literals)
 
-pub compiled : (code literals : List ℕ) → code ≡ code_of literals → 11 * length literals ≤ MAX_SOURCE_BYTES → AllByRecursion (λ n. n < 2 ^ 32) literals → Compiled code literals
-compiled code literals same few small =
-    let count : length code ≡ 3 * length literals + 1 + words_left (3 * length literals + 1) = ap length same ∙ length-code_of literals in
-    let words : AreWords code = subst AreWords (sym same) (code-AreWords literals small) in
+pub compiled : (code literals : List ℕ) → code ≡ code_of literals → 5 * length literals ≤ MAX_SOURCE_BYTES → Compiled code literals
+compiled code literals same few =
+    let count : length code ≡ 2 * length literals + 1 + words_left (2 * length literals + 1) = ap length same ∙ length-code_of literals in
+    let words : AreWords code = subst AreWords (sym same) (code-AreWords literals) in
     let whole : length code % 16 ≡ 0 = omega arith in
     let short : length code ≤ 16 * 6561 = omega arith in
     record {
@@ -180,5 +190,5 @@ compiled code literals same few small =
       runs = λ memory holds.
           let P : ℕ → Type 0 = λ steps. RunsTo memory steps reset (released literals) in
           subst P (steps_of-length literals)
-          (runs-from memory code _ (record { holds = holds; small = words; blocks = whole; fits = short }) literals [] reset refl small (record { whole = same; place = refl }));
+          (runs-from memory code _ (record { holds = holds; small = words; blocks = whole; fits = short }) literals [] reset (record { registers = refl; zero = refl }) (record { whole = same; place = refl }));
     }

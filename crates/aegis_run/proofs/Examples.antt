@@ -4,7 +4,9 @@ use Rattle.std.specs.Prelude.{codes}
 use Rattle.std.proofs.lemmas.Fmt.{decimal_digit}
 use Rattle.aegis_run.specs.declared.ends.File.TheVariants.{Source, Script, Input}
 use Rattle.aegis_run.specs.declared.ends.End.TheVariants.{Ended}
-use Rattle.aegis_run.specs.declared.ends.TopEnd.TheVariants.{Run, Usage, NotYet}
+use Rattle.aegis_run.specs.declared.ends.TopEnd.TheVariants.{Run, Usage, Token, Syntax, NotYet}
+use Rattle.c_token.specs.declared.kinds.TokenError.TheVariants as token
+use Rattle.c_reader.specs.declared.error.SyntaxError.TheVariants as syntax
 use Rattle.aegis_run.specs.Answer.{limit_for, released}
 use Rattle.aegis_run.specs.Code.{code_of}
 use Rattle.aegis_run.specs.Report.{line_of, status_of}
@@ -58,11 +60,23 @@ no_fuel = refl
 low_byte : released (328 ∷ []) ≡ 72 ∷ []
 low_byte = refl
 
-code_of_one : code_of (65608 ∷ []) ≡ 0x18600001 ∷ 0xa8630048 ∷ 0x70000006 ∷ 0x70000001 ∷ replicate 12 0x15000000
+code_of_one : code_of (65608 ∷ []) ≡ 0xa8600048 ∷ 0x70000006 ∷ 0x70000001 ∷ replicate 13 0x15000000
 code_of_one = refl
 
-line_of_run : line_of (Run Ended) 7 ≡ codes "ended retired 7 events 0\n"
-line_of_run = ap (λ digits. codes "ended retired " ++ digits ++ codes " events 0\n") (decimal_digit 7 (omega arith))
+line_of_run : line_of (Run Ended) 5 ≡ codes "ended retired 5 events 0\n"
+line_of_run = ap (λ digits. codes "ended retired " ++ digits ++ codes " events 0\n") (decimal_digit 5 (omega arith))
+
+line_of_byte : line_of (Token (token.BadByte 5)) 0 ≡ codes "byte 5: bad byte\n"
+line_of_byte = ap (λ digits. codes "byte " ++ digits ++ codes ": bad byte\n") (decimal_digit 5 (omega arith))
+
+line_of_token : line_of (Syntax (syntax.Expected 7)) 0 ≡ codes "token 7: unexpected\n"
+line_of_token = ap (λ digits. codes "token " ++ digits ++ codes ": unexpected\n") (decimal_digit 7 (omega arith))
+
+line_of_nesting : line_of (Syntax (syntax.Deep 9)) 0 ≡ codes "token 9: nested too deep\n"
+line_of_nesting = ap (λ digits. codes "token " ++ digits ++ codes ": nested too deep\n") (decimal_digit 9 (omega arith))
+
+line_of_source : line_of (NotYet Source) 0 ≡ codes "not yet source\n"
+line_of_source = refl
 
 line_of_script : line_of (NotYet Script) 0 ≡ codes "not yet script\n"
 line_of_script = refl

@@ -2,5 +2,8 @@ pub mod AnswerLemmas
 pub mod CodeLemmas
 pub mod Examples
 pub mod MachineLemmas
-pub mod SourceLemmas
 pub mod WordLemmas
+pub mod SourceLemmas
+pub mod LiteralLemmas
+pub mod LengthLemmas
+pub mod TypingLemmas

@@ -1,50 +1,321 @@
--- A source releases few literals for its length.
-use Rattle.std.proofs.Common.{◌≡◌, ℕ, ◌+◌, ◌*◌, ◌^◌, ◌<◌, ◌≤◌, List, [], ◌∷◌, ◌++◌, length, ap, arith, length-append}
-use Rattle.std.specs.List.{flat_map, AllByRecursion}
-use Rattle.std.specs.Fmt.{decimal}
-use Rattle.std.proofs.lemmas.Fmt.{decimal_nonempty}
-use Rattle.c_reader.specs.Source.{Word, Spells, IsSource, header_words, release_words, return_words}
+-- A text has one answer: it is run, or it is not, in one way.
+use Rattle.std.proofs.Common.{◌≡◌, ◌≢◌, ◌≤◌, ◌*◌, ◌+◌, ℕ, suc, true, List, [], ◌∷◌, ◌++◌, length, map, Option, None, Some, Ok, Err, refl, sym, ◌∙◌, ap, subst, arith, length-append}
+use Rattle.std.specs.Str.{bytes_eq}
+use Rattle.std.specs.Prelude.{codes, is_some, if◌then◌else◌}
+use Rattle.c_grammar.specs.declared.item.Parameter.{Parameter}
+use Rattle.c_grammar.specs.declared.stmt.Stmt.TheVariants as stmt
+use Rattle.c_token.specs.declared.kinds.Kind.{Kind}
+use Rattle.c_token.specs.declared.kinds.Token.{Token}
+use Rattle.c_token.specs.declared.kinds.TokenError.{TokenError}
+use Rattle.c_token.specs.declared.kinds.TokenError.TheVariants as token
+use Rattle.c_token.specs.Lexemes.{Placed, lexeme_of, placed_all}
+use Rattle.c_grammar.specs.declared.expr.Expr.{Expr}
+use Rattle.c_grammar.specs.declared.stmt.Stmt.{Stmt}
+use Rattle.c_grammar.specs.declared.item.Item.{Item}
+use Rattle.c_grammar.specs.declared.item.Program.{Program}
+use Rattle.c_grammar.specs.Same as same
+use Rattle.c_grammar.specs.Same.{Same, SameExpr, SameStmt, SameStmts, SameItem, SameItems, SameOption, SameParameters}
+use Rattle.c_grammar.specs.Places.{Reads, IsExpectedAt, IsDeepAt, IsShallowBefore}
+use Rattle.c_grammar.specs.AlikeKinds.{lexemes_in, same_reads}
+use Rattle.c_grammar.specs.AlikePlaces.{same_expected, same_deep, same_shallow}
+use Rattle.c_grammar.specs.PlaceLaws.{reads-expected, reads-deep, expected-one, deep-one, expected-deep}
+use Rattle.c_types.specs.declared.error.TypeError.{TypeError}
+use Rattle.c_types.specs.declared.error.TypeError.TheVariants as type
+use Rattle.c_types.specs.Checked.{IsTyped, IsRefused}
+use Rattle.aegis_run.proofs.TypingLemmas.{literals_typed, typed_refused, one_type_error}
+use Rattle.c_reader.specs.declared.error.SyntaxError.{SyntaxError}
+use Rattle.c_reader.specs.declared.error.SyntaxError.TheVariants as syntax
+use Rattle.c_reader.specs.Refusals.{IsRefusedAs, OneProgram}
+use Rattle.aegis_run.specs.declared.ends.File.TheVariants.{Source, Script, Input}
+use Rattle.aegis_run.specs.declared.ends.End.{End}
+use Rattle.aegis_run.specs.declared.ends.TopEnd.{TopEnd}
+use Rattle.aegis_run.specs.declared.ends.TopEnd.TheVariants.{Run, Usage, TooLong, Token as TokenEnd, Syntax, Typing, NotYet, NoFile, ReadFault, OutOfMemory}
+use Rattle.aegis_run.specs.Literals.{number_in, released_by, returns_literal, in_front, body_literals, is_main, is_nothing, item_literals, items_literals, literals_of}
+use Rattle.aegis_run.specs.SourceText.{HasTokens, kinds_in, IsText, IsAlways, HasTokenFault, HasSyntaxFault, HasTypeFault}
+use Rattle.aegis_run.specs.Answer.{Releases, IsNotYet, SourceFault, SureFault}
 
--- how many bytes the words have
-bytes_in : List Word → ℕ
-bytes_in [] = 0
-bytes_in (w ∷ words) = length w.bytes + bytes_in words
+-- ---- programs that differ in token numbers alone release the same literals
 
--- words behind words
-bytes_in-append : (first second : List Word) → bytes_in (first ++ second) ≡ bytes_in first + bytes_in second
-unfolding bytes_in
-bytes_in-append [] second = omega arith
-bytes_in-append (w ∷ words) second = let rest : bytes_in (words ++ second) ≡ bytes_in words + bytes_in second = bytes_in-append words second in omega arith
+same_number : (x y : Expr) → SameExpr x y → number_in x ≡ number_in y
+same_number x y (same.number value unsigned m n) = refl
+same_number x y (same.name a b m n e) = refl
+same_number x y (same.element a b m n e inner) = refl
+same_number x y (same.call a b m n e inner) = refl
+same_number x y (same.input m n) = refl
+same_number x y (same.paren m n inner) = refl
+same_number x y (same.unary op m n inner) = refl
+same_number x y (same.binary op m n left right) = refl
 
--- a text has at least the bytes of its words
-length-spelled : (words : List Word) (text : List ℕ) → Spells words text → bytes_in words ≤ length text
-unfolding bytes_in
-length-spelled [] text spells = omega arith
-length-spelled (w ∷ words) text spells =
-    let rest : bytes_in words ≤ length spells.0 = length-spelled words spells.0 spells.1.1 in
-    let whole : length text ≡ length (spells.1.0.blanks ++ (w.bytes ++ spells.0)) = ap length spells.1.0.spelled in
-    let parts : length w.bytes + length spells.0 ≤ length (spells.1.0.blanks ++ (w.bytes ++ spells.0)) = simp length-append (omega arith) in
-    omega arith
+same_released : (x y : Stmt) → SameStmt x y → released_by x ≡ released_by y
+same_released x y (same.block m n inner) = refl
+same_released x y (same.empty m n) = refl
+same_released x y (same.local unsigned a b m n e value) = refl
+same_released x y (same.assign a b m n e index value) = refl
+same_released x y (same.call a b m n e inner) = refl
+same_released x y (same.release m n value) = same_number _ _ value
+same_released x y (same.check m n) = refl
+same_released x y (same.«return» m n value) = refl
+same_released x y (same.break m n) = refl
+same_released x y (same.continue m n) = refl
+same_released x y (same.if m n test body) = refl
+same_released x y (same.if_else m n test body other) = refl
+same_released x y (same.while m n test body) = refl
+same_released x y (same.for m n first test step body) = refl
 
--- each release has eleven bytes at least
-bytes_in-releases : (literals : List ℕ) → AllByRecursion (λ n. n < 2 ^ 32) literals → 11 * length literals ≤ bytes_in (flat_map release_words literals)
-unfolding bytes_in
-bytes_in-releases [] small = omega arith
-bytes_in-releases (literal ∷ literals) small =
-    let rest : 11 * length literals ≤ bytes_in (flat_map release_words literals) = bytes_in-releases literals small.1 in
-    let bound : literal < 2 ^ 32 = small.0 in
-    let some : 0 < length (decimal literal) = decimal_nonempty literal (omega arith) in
-    let parts : bytes_in (release_words literal ++ flat_map release_words literals) ≡ bytes_in (release_words literal) + bytes_in (flat_map release_words literals) =
-    bytes_in-append (release_words literal) (flat_map release_words literals) in
-    omega arith
+same_value : (m n : ℕ) (x y : Option Expr) → SameOption SameExpr x y → returns_literal (stmt.Return x m) ≡ returns_literal (stmt.Return y n)
+same_value m n x y same.missing = refl
+same_value m n x y (same.given value) = ap is_some (same_number _ _ value)
 
--- a source has eleven bytes at least for each literal
-pub length-source : (text literals : List ℕ) → IsSource text literals → 11 * length literals ≤ length text
-length-source text literals source =
-    let releases : 11 * length literals ≤ bytes_in (flat_map release_words literals) = bytes_in-releases literals source.literals_fit in
-    let outer : bytes_in (header_words ++ (flat_map release_words literals ++ return_words source.returned)) ≡ bytes_in header_words + bytes_in (flat_map release_words literals ++ return_words source.returned) =
-    bytes_in-append header_words (flat_map release_words literals ++ return_words source.returned) in
-    let inner : bytes_in (flat_map release_words literals ++ return_words source.returned) ≡ bytes_in (flat_map release_words literals) + bytes_in (return_words source.returned) =
-    bytes_in-append (flat_map release_words literals) (return_words source.returned) in
-    let whole : bytes_in (header_words ++ (flat_map release_words literals ++ return_words source.returned)) ≤ length text = length-spelled _ text source.spelled in
-    omega arith
+same_returns : (x y : Stmt) → SameStmt x y → returns_literal x ≡ returns_literal y
+same_returns x y (same.block m n inner) = refl
+same_returns x y (same.empty m n) = refl
+same_returns x y (same.local unsigned a b m n e value) = refl
+same_returns x y (same.assign a b m n e index value) = refl
+same_returns x y (same.call a b m n e inner) = refl
+same_returns x y (same.release m n value) = refl
+same_returns x y (same.check m n) = refl
+same_returns x y (same.«return» m n value) = same_value m n _ _ value
+same_returns x y (same.break m n) = refl
+same_returns x y (same.continue m n) = refl
+same_returns x y (same.if m n test body) = refl
+same_returns x y (same.if_else m n test body other) = refl
+same_returns x y (same.while m n test body) = refl
+same_returns x y (same.for m n first test step body) = refl
+
+same_further : (x y : Stmt) (xs ys : List Stmt) → SameStmt x y → SameStmts xs ys → body_literals xs ≡ body_literals ys → body_literals (x ∷ xs) ≡ body_literals (y ∷ ys)
+same_further x y xs ys s same.none_left later = ap (λ returns. if returns then Some [] else None) (same_returns x y s)
+same_further x y xs ys s (same.one_more {x = x'} {y = y'} {xs = xs'} {ys = ys'} t rest) later =
+    let first : released_by x ≡ released_by y = same_released x y s in
+    ap (λ number. in_front number (body_literals (x' ∷ xs'))) first ∙ ap (in_front (released_by y)) later
+
+same_body : (xs ys : List Stmt) → SameStmts xs ys → body_literals xs ≡ body_literals ys
+same_body xs ys same.none_left = refl
+same_body xs ys (same.one_more {x = x} {y = y} {xs = xs'} {ys = ys'} s rest) = same_further x y xs' ys' s rest (same_body xs' ys' rest)
+
+same_nothing : (xs ys : List Parameter) → SameParameters xs ys → is_nothing xs ≡ is_nothing ys
+same_nothing xs ys same.none_left = refl
+same_nothing xs ys (same.one_more unsigned a b m n e rest) = refl
+
+same_item : (x y : Item) → SameItem x y → item_literals x ≡ item_literals y
+same_item x y (same.object class unsigned a b length m n e) = refl
+same_item x y (same.constant unsigned a b length values braces m n e) = refl
+same_item x y (same.untrusted a b m n e) = refl
+same_item x y (same.function is_private result f g m n e parameters body) =
+    rw (e, same_nothing _ _ parameters, same_body _ _ body) refl
+
+same_items : (xs ys : List Item) → SameItems xs ys → items_literals xs ≡ items_literals ys
+same_items xs ys same.none_left = refl
+same_items xs ys (same.one_more x same.none_left) = same_item _ _ x
+same_items xs ys (same.one_more x (same.one_more y rest)) = refl
+
+-- ---- the tokens of a text have one list of lexemes
+
+lexemes_placed : (tokens : List Token) → lexemes_in (kinds_in tokens) ≡ map (λ placed. placed.lexeme) (placed_all tokens)
+lexemes_placed [] = refl
+lexemes_placed (t ∷ ts) = ap (λ rest. lexeme_of t.kind ∷ rest) (lexemes_placed ts)
+
+one_lexemes : (text : List ℕ) (ts us : List Token) → HasTokens text ts → HasTokens text us → lexemes_in (kinds_in ts) ≡ lexemes_in (kinds_in us)
+one_lexemes text ts us one two =
+    let placed : placed_all ts ≡ placed_all us = let both : Ok (placed_all ts) ≡ Ok (placed_all us) = sym one ∙ two in cc in
+    lexemes_placed ts ∙ ap (map (λ placed. placed.lexeme)) placed ∙ sym (lexemes_placed us)
+
+-- ---- a text has one answer
+
+-- a text is one program, but for token numbers
+one_text : OneProgram → (text : List ℕ) (p q : Program) → IsText text p → IsText text q → Same p q
+one_text one text p q first second =
+    let there = same_reads (kinds_in first.tokens) (kinds_in second.tokens) p (one_lexemes text first.tokens second.tokens first.lexed second.lexed) first.read in
+    subst (λ r. Same p r) (one (kinds_in second.tokens) there.0 q there.1.0 second.read) there.1.1
+
+-- its literals are one list
+pub one_literals : OneProgram → (text : List ℕ) (p q : Program) → IsText text p → IsText text q → literals_of p ≡ literals_of q
+one_literals one text p q first second = same_items p.items q.items (one_text one text p q first second)
+
+-- a program is not refused
+read_refused : (kinds : List Kind) (p : Program) (error : SyntaxError) → error ≢ syntax.OutOfMemory → Reads kinds p → IsRefusedAs kinds error → ⊥
+read_refused kinds p (syntax.Expected place) other reads refused = reads-expected kinds p place reads refused.0
+read_refused kinds p (syntax.Deep place) other reads refused = reads-deep kinds p place reads refused
+read_refused kinds p syntax.OutOfMemory other reads refused = other refl
+
+-- other tokens of the same text are refused in the same way
+carried_refusal : (js ks : List Kind) (error : SyntaxError) → lexemes_in js ≡ lexemes_in ks → IsRefusedAs js error → IsRefusedAs ks error
+carried_refusal js ks (syntax.Expected place) e refused = (same_expected js ks e place refused.0, same_shallow js ks e place refused.1)
+carried_refusal js ks (syntax.Deep place) e refused = same_deep js ks e place refused
+carried_refusal js ks syntax.OutOfMemory e refused = tt
+
+-- a refusal is one
+one_refusal : (kinds : List Kind) (a b : SyntaxError) → a ≢ syntax.OutOfMemory → b ≢ syntax.OutOfMemory → IsRefusedAs kinds a → IsRefusedAs kinds b → a ≡ b
+one_refusal kinds (syntax.Expected j) (syntax.Expected k) p q first second = ap syntax.Expected (expected-one kinds j k first.0 second.0)
+one_refusal kinds (syntax.Expected j) (syntax.Deep k) p q first second = absurd (expected-deep kinds j k first.0 first.1 second)
+one_refusal kinds (syntax.Deep j) (syntax.Expected k) p q first second = absurd (expected-deep kinds k j second.0 second.1 first)
+one_refusal kinds (syntax.Deep j) (syntax.Deep k) p q first second = ap syntax.Deep (deep-one kinds j k first second)
+one_refusal kinds syntax.OutOfMemory b p q first second = absurd (p refl)
+one_refusal kinds a syntax.OutOfMemory p q first second = absurd (q refl)
+
+-- tokens that are a program are refused in no way
+text_refused : (text : List ℕ) (p : Program) (error : SyntaxError) → error ≢ syntax.OutOfMemory → IsText text p → HasSyntaxFault text error → ⊥
+text_refused text p error other is fault =
+    read_refused (kinds_in is.tokens) p error other is.read
+    (carried_refusal (kinds_in fault.tokens) (kinds_in is.tokens) error (one_lexemes text fault.tokens is.tokens fault.lexed is.lexed) fault.refused)
+
+-- a text that has tokens has no fault of tokens
+lexed_faulty : (text : List ℕ) (tokens : List Token) (error : TokenError) → HasTokens text tokens → HasTokenFault text error → ⊥
+lexed_faulty text tokens error lexed fault = let both : Ok (placed_all tokens) ≡ Err error = sym lexed ∙ fault in cc
+
+token_fault : (text : List ℕ) (error : TokenError) → SourceFault text (TokenEnd error) → HasTokenFault text error
+token_fault text (token.BadByte at) fault = fault
+token_fault text (token.OpenComment at) fault = fault
+token_fault text (token.LongName at) fault = fault
+token_fault text (token.BadNumber at) fault = fault
+token_fault text (token.BigNumber at) fault = fault
+token_fault text token.OutOfMemory fault = absurd fault
+
+other_fault : (text : List ℕ) (error : SyntaxError) → SourceFault text (Syntax error) → error ≢ syntax.OutOfMemory
+other_fault text (syntax.Expected place) fault = λ same. cc
+other_fault text (syntax.Deep place) fault = λ same. cc
+other_fault text syntax.OutOfMemory fault = absurd fault
+
+syntax_fault : (text : List ℕ) (error : SyntaxError) → SourceFault text (Syntax error) → HasSyntaxFault text error
+syntax_fault text (syntax.Expected place) fault = fault
+syntax_fault text (syntax.Deep place) fault = fault
+syntax_fault text syntax.OutOfMemory fault = absurd fault
+
+other_type : (text : List ℕ) (error : TypeError) → SourceFault text (Typing error) → error ≢ type.OutOfMemory
+other_type text error fault = λ same. let P : TypeError → Type 0 = λ error. SourceFault text (Typing error) in subst P same fault
+
+type_fault : (text : List ℕ) (error : TypeError) → SourceFault text (Typing error) → HasTypeFault text error
+type_fault text type.OutOfMemory fault = absurd fault
+type_fault text (type.Unknown at) fault = fault
+type_fault text (type.Twice at) fault = fault
+type_fault text (type.Recursive at) fault = fault
+type_fault text (type.Class at) fault = fault
+type_fault text (type.Shape at) fault = fault
+type_fault text (type.Arity at) fault = fault
+type_fault text (type.TooLong at) fault = fault
+type_fault text (type.TooMany at) fault = fault
+type_fault text type.NoMain fault = fault
+
+always_type : (text : List ℕ) (error : TypeError) → SureFault text (Typing error) → IsAlways text (λ program. IsRefused program error)
+always_type text type.OutOfMemory fault = absurd fault
+always_type text (type.Unknown at) fault = fault
+always_type text (type.Twice at) fault = fault
+always_type text (type.Recursive at) fault = fault
+always_type text (type.Class at) fault = fault
+always_type text (type.Shape at) fault = fault
+always_type text (type.Arity at) fault = fault
+always_type text (type.TooLong at) fault = fault
+always_type text (type.TooMany at) fault = fault
+always_type text type.NoMain fault = fault
+
+held : (text : List ℕ) (error : TypeError) → IsAlways text (λ program. IsRefused program error) → HasTypeFault text error
+held text error fault = record { program = fault.program; is_text = fault.is_text; refused = fault.always fault.program fault.is_text }
+
+sure_type : (text : List ℕ) (error : TypeError) → SureFault text (Typing error) → SourceFault text (Typing error)
+sure_type text type.OutOfMemory fault = absurd fault
+sure_type text (type.Unknown at) fault = held text (type.Unknown at) fault
+sure_type text (type.Twice at) fault = held text (type.Twice at) fault
+sure_type text (type.Recursive at) fault = held text (type.Recursive at) fault
+sure_type text (type.Class at) fault = held text (type.Class at) fault
+sure_type text (type.Shape at) fault = held text (type.Shape at) fault
+sure_type text (type.Arity at) fault = held text (type.Arity at) fault
+sure_type text (type.TooLong at) fault = held text (type.TooLong at) fault
+sure_type text (type.TooMany at) fault = held text (type.TooMany at) fault
+sure_type text type.NoMain fault = held text type.NoMain fault
+
+-- a sure fault is one
+pub sure_fault : (text : List ℕ) (end : TopEnd) → SureFault text end → SourceFault text end
+sure_fault text (Run end) fault = fault
+sure_fault text Usage fault = fault
+sure_fault text (TooLong file) fault = fault
+sure_fault text (TokenEnd error) fault = fault
+sure_fault text (Syntax error) fault = fault
+sure_fault text (Typing error) fault = sure_type text error fault
+sure_fault text (NotYet Source) fault =
+    let here : IsTyped fault.program × (literals_of fault.program ≡ None) = fault.always fault.program fault.is_text in
+    record { program = fault.program; is_text = fault.is_text; typed = here.0; other = here.1 }
+sure_fault text (NotYet Script) fault = fault
+sure_fault text (NotYet Input) fault = fault
+sure_fault text (NoFile file) fault = fault
+sure_fault text ReadFault fault = fault
+sure_fault text OutOfMemory fault = fault
+
+-- a text that is run has no fault
+pub fault_passes : OneProgram → (text literals : List ℕ) (end : TopEnd) → SourceFault text end → Releases text literals → ⊥
+fault_passes one text literals (Run end) fault releases = fault
+fault_passes one text literals Usage fault releases = fault
+fault_passes one text literals (TooLong file) fault releases = fault
+fault_passes one text literals (TokenEnd error) fault releases = lexed_faulty text releases.is_text.tokens error releases.is_text.lexed (token_fault text error fault)
+fault_passes one text literals (Syntax error) fault releases =
+    text_refused text releases.program error (other_fault text error fault) releases.is_text (syntax_fault text error fault)
+fault_passes one text literals (Typing error) fault releases =
+    let ill = type_fault text error fault in
+    let same : literals_of ill.program ≡ Some literals = one_literals one text ill.program releases.program ill.is_text releases.is_text ∙ releases.literals_are in
+    typed_refused ill.program error (other_type text error fault) (literals_typed ill.program literals same) ill.refused
+fault_passes one text literals (NotYet Source) fault releases =
+    let both : Some literals ≡ None = sym releases.literals_are ∙ one_literals one text releases.program fault.program releases.is_text fault.is_text ∙ fault.other in cc
+fault_passes one text literals (NotYet Script) fault releases = fault
+fault_passes one text literals (NotYet Input) fault releases = fault
+fault_passes one text literals (NoFile file) fault releases = fault
+fault_passes one text literals ReadFault fault releases = fault
+fault_passes one text literals OutOfMemory fault releases = fault
+
+-- two faults of the tokens of one text are one
+two_refusals : (text : List ℕ) (a b : SyntaxError) → a ≢ syntax.OutOfMemory → b ≢ syntax.OutOfMemory → HasSyntaxFault text a → HasSyntaxFault text b → a ≡ b
+two_refusals text a b p q first second =
+    one_refusal (kinds_in second.tokens) a b p q
+    (carried_refusal (kinds_in first.tokens) (kinds_in second.tokens) a (one_lexemes text first.tokens second.tokens first.lexed second.lexed) first.refused)
+    second.refused
+
+-- a text that is a program has no fault of tokens, and no program stops in it
+text_lexed : (text : List ℕ) (p : Program) (error : TokenError) → IsText text p → SourceFault text (TokenEnd error) → ⊥
+text_lexed text p error is fault = lexed_faulty text is.tokens error is.lexed (token_fault text error fault)
+
+text_read : (text : List ℕ) (p : Program) (error : SyntaxError) → IsText text p → SourceFault text (Syntax error) → ⊥
+text_read text p error is fault = text_refused text p error (other_fault text error fault) is (syntax_fault text error fault)
+
+-- a text has one fault
+pub one_fault : (text : List ℕ) (a b : TopEnd) → SourceFault text a → SureFault text b → a ≡ b
+one_fault text (TokenEnd a) (TokenEnd b) first second =
+    let both : Err a ≡ Err b = sym (token_fault text a first) ∙ token_fault text b second in cc
+one_fault text (TokenEnd a) (Syntax b) first second =
+    let fault = syntax_fault text b second in absurd (lexed_faulty text fault.tokens a fault.lexed (token_fault text a first))
+one_fault text (TokenEnd a) (Typing b) first second = let sure = always_type text b second in absurd (text_lexed text sure.program a sure.is_text first)
+one_fault text (TokenEnd a) (NotYet Source) first second = absurd (text_lexed text second.program a second.is_text first)
+one_fault text (Syntax a) (TokenEnd b) first second =
+    let fault = syntax_fault text a first in absurd (lexed_faulty text fault.tokens b fault.lexed (token_fault text b second))
+one_fault text (Syntax a) (Syntax b) first second =
+    ap Syntax (two_refusals text a b (other_fault text a first) (other_fault text b second) (syntax_fault text a first) (syntax_fault text b second))
+one_fault text (Syntax a) (Typing b) first second = let sure = always_type text b second in absurd (text_read text sure.program a sure.is_text first)
+one_fault text (Syntax a) (NotYet Source) first second = absurd (text_read text second.program a second.is_text first)
+one_fault text (Typing a) (TokenEnd b) first second = let ill = type_fault text a first in absurd (text_lexed text ill.program b ill.is_text second)
+one_fault text (Typing a) (Syntax b) first second = let ill = type_fault text a first in absurd (text_read text ill.program b ill.is_text second)
+one_fault text (Typing a) (Typing b) first second =
+    let ill = type_fault text a first in
+    let sure = always_type text b second in
+    ap Typing (one_type_error ill.program a b (other_type text a first) (other_type text b (sure_type text b second)) ill.refused (sure.always ill.program ill.is_text))
+one_fault text (Typing a) (NotYet Source) first second =
+    let ill = type_fault text a first in
+    let sure : IsTyped ill.program × (literals_of ill.program ≡ None) = second.always ill.program ill.is_text in
+    absurd (typed_refused ill.program a (other_type text a first) sure.0 ill.refused)
+one_fault text (NotYet Source) (TokenEnd b) first second = absurd (text_lexed text first.program b first.is_text second)
+one_fault text (NotYet Source) (Syntax b) first second = absurd (text_read text first.program b first.is_text second)
+one_fault text (NotYet Source) (Typing b) first second =
+    let sure = always_type text b second in
+    absurd (typed_refused first.program b (other_type text b (sure_type text b second)) first.typed (sure.always first.program first.is_text))
+one_fault text (NotYet Source) (NotYet Source) first second = refl
+one_fault text (Run end) b first second = absurd first
+one_fault text Usage b first second = absurd first
+one_fault text (TooLong file) b first second = absurd first
+one_fault text (NotYet Script) b first second = absurd first
+one_fault text (NotYet Input) b first second = absurd first
+one_fault text (NoFile file) b first second = absurd first
+one_fault text ReadFault b first second = absurd first
+one_fault text OutOfMemory b first second = absurd first
+one_fault text a (Run end) first second = absurd second
+one_fault text a Usage first second = absurd second
+one_fault text a (TooLong file) first second = absurd second
+one_fault text a (NotYet Script) first second = absurd second
+one_fault text a (NotYet Input) first second = absurd second
+one_fault text a (NoFile file) first second = absurd second
+one_fault text a ReadFault first second = absurd second
+one_fault text a OutOfMemory first second = absurd second

@@ -7,7 +7,7 @@ use Rattle.aegis_run.specs.declared.ends.End.TheVariants.{Ended, WriteFault}
 use Rattle.aegis_run.specs.declared.ends.TopEnd.{TopEnd}
 use Rattle.aegis_run.specs.declared.ends.TopEnd.TheVariants.{Run, OutOfMemory}
 use Rattle.orbis_word.specs.declared.Instr.{Instr}
-use Rattle.orbis_word.specs.declared.Instr.TheVariants.{Movhi, Nop, Ori, Cust1}
+use Rattle.orbis_word.specs.declared.Instr.TheVariants.{Nop, Ori, Cust1}
 use Rattle.orbis_word.specs.Table.{IsInRange, word_of}
 use Rattle.regions.specs.declared.Access.TheVariants.{Fetch}
 use Rattle.regions.specs.declared.Mode.TheVariants.{Ptr}
@@ -23,9 +23,9 @@ use Rattle.orbis_core.specs.Processor.{Processor, advanced, core_behind}
 use Rattle.orbis_core.specs.Refusals.{answered, word_refusal}
 use Rattle.orbis_core.specs.Secure.{secure_end, secure_of}
 
--- a literal is put into r3 in two halves, and its low byte is released
+-- the low half of a literal is put into r3, and its low byte is released
 abbrev pub release_code : ℕ → List ℕ
-release_code literal = map word_of (Movhi 3 (literal / 65536) ∷ Ori 3 3 (literal % 65536) ∷ Cust1 6 ∷ [])
+release_code literal = map word_of (Ori 3 0 (literal % 65536) ∷ Cust1 6 ∷ [])
 
 -- the program of a source that releases these literals: each in turn, and then the exit
 abbrev pub program_of : List ℕ → List ℕ

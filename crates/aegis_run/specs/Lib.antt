@@ -3,3 +3,5 @@ pub mod Code
 pub mod Opening
 pub mod Report
 pub mod Words
+pub mod Literals
+pub mod SourceText

@@ -1,14 +1,14 @@
--- Why one file is not read, and why a text is no source.
+-- Why one file is not read, and why a text is not run.
 use Rattle.std.specs.Prelude.{◌≡◌, ℕ, List, Option}
 use Rattle.aegis_edge.specs.Faults.{Rose}
 use Rattle.aegis_edge.specs.Folder.{Files}
-use Rattle.c_reader.specs.declared.SyntaxError.TheVariants as syntax
 use Rattle.aegis_run.specs.declared.ends.File.{File}
+use Rattle.aegis_run.specs.declared.ends.File.TheVariants.{Source, Script, Input}
 use Rattle.aegis_run.specs.declared.ends.TopEnd.{TopEnd}
-use Rattle.aegis_run.specs.declared.ends.TopEnd.TheVariants.{Run, Usage, TooLong, Syntax, NotYet, NoFile, ReadFault, OutOfMemory}
+use Rattle.aegis_run.specs.declared.ends.TopEnd.TheVariants.{Run, Usage, TooLong, Token, Syntax, Typing, NotYet, NoFile, ReadFault, OutOfMemory}
 use Rattle.aegis_run.specs.declared.words.RunWords.{RunWords}
 use Rattle.aegis_run.specs.Words.{RunNames}
-use Rattle.aegis_run.specs.Answer.{IsAbsent, IsOverlong, IsNoSource}
+use Rattle.aegis_run.specs.Answer.{IsAbsent, IsOverlong, SourceFault}
 
 -- why a file is not read, and which answer says so
 abbrev pub OpenCause : Option Files → List ℕ → File → ℕ → ℕ → TopEnd → Type 0
@@ -16,22 +16,12 @@ OpenCause files name file before now (NoFile named) = (named ≡ file) × IsAbse
 OpenCause files name file before now (TooLong named) = (named ≡ file) × IsOverlong files name file before now
 OpenCause files name file before now ReadFault = Rose before now
 OpenCause files name file before now OutOfMemory = Unit {0}
-OpenCause files name file before now Usage = ⊥
-OpenCause files name file before now (Syntax error) = ⊥
-OpenCause files name file before now (NotYet named) = ⊥
-OpenCause files name file before now (Run end) = ⊥
+OpenCause files name file before now end = ⊥
 
 -- why a text gives no literals, and which answer says so
 abbrev pub ParseCause : List ℕ → TopEnd → Type 0
-ParseCause text (Syntax (syntax.NotYet at)) = IsNoSource text at
 ParseCause text OutOfMemory = Unit {0}
-ParseCause text (Syntax syntax.OutOfMemory) = ⊥
-ParseCause text (Run end) = ⊥
-ParseCause text Usage = ⊥
-ParseCause text (TooLong file) = ⊥
-ParseCause text (NotYet file) = ⊥
-ParseCause text (NoFile file) = ⊥
-ParseCause text ReadFault = ⊥
+ParseCause text end = SourceFault text end
 
 -- no run was started
 abbrev pub IsRefusal : TopEnd → Type 0

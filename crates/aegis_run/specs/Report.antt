@@ -4,14 +4,21 @@ use Rattle.aegis_run.specs.declared.ends.File.{File}
 use Rattle.aegis_run.specs.declared.ends.File.TheVariants.{Source, Script, Input}
 use Rattle.aegis_run.specs.declared.ends.End.TheVariants.{Ended, WriteFault}
 use Rattle.aegis_run.specs.declared.ends.TopEnd.{TopEnd}
-use Rattle.aegis_run.specs.declared.ends.TopEnd.TheVariants.{Run, Usage, TooLong, Syntax, NotYet, NoFile, ReadFault, OutOfMemory}
-use Rattle.c_reader.specs.declared.SyntaxError.TheVariants as syntax
+use Rattle.aegis_run.specs.declared.ends.TopEnd.TheVariants.{Run, Usage, TooLong, Token, Syntax, Typing, NotYet, NoFile, ReadFault, OutOfMemory}
+use Rattle.c_token.specs.declared.kinds.TokenError.{TokenError}
+use Rattle.c_token.specs.declared.kinds.TokenError.TheVariants as token
+use Rattle.c_reader.specs.declared.error.SyntaxError.{SyntaxError}
+use Rattle.c_reader.specs.declared.error.SyntaxError.TheVariants as syntax
+use Rattle.c_types.specs.declared.error.TypeError.{TypeError}
+use Rattle.c_types.specs.declared.error.TypeError.TheVariants as type
 
 -- the status of an answer whose line was written
 abbrev pub status_when_noted : TopEnd → ℕ
 status_when_noted (Run Ended) = 0
 status_when_noted Usage = 1
+status_when_noted (Token error) = 2
 status_when_noted (Syntax error) = 2
+status_when_noted (Typing error) = 2
 status_when_noted (NoFile file) = 4
 status_when_noted ReadFault = 4
 status_when_noted (Run WriteFault) = 5
@@ -30,14 +37,47 @@ name_of Source = codes "source"
 name_of Script = codes "script"
 name_of Input = codes "input"
 
+-- a line that tells a place, and what is wrong there
+abbrev pub place_line : List ℕ → ℕ → List ℕ → List ℕ
+place_line front place back = front ++ decimal place ++ back
+
+-- the line of a text without tokens
+abbrev pub token_line : TokenError → List ℕ
+token_line (token.BadByte at) = place_line (codes "byte ") at (codes ": bad byte\n")
+token_line (token.OpenComment at) = place_line (codes "byte ") at (codes ": open comment\n")
+token_line (token.LongName at) = place_line (codes "byte ") at (codes ": long name\n")
+token_line (token.BadNumber at) = place_line (codes "byte ") at (codes ": bad number\n")
+token_line (token.BigNumber at) = place_line (codes "byte ") at (codes ": big number\n")
+token_line token.OutOfMemory = codes "out of memory\n"
+
+-- the line of tokens that are no program
+abbrev pub syntax_line : SyntaxError → List ℕ
+syntax_line (syntax.Expected place) = place_line (codes "token ") place (codes ": unexpected\n")
+syntax_line (syntax.Deep place) = place_line (codes "token ") place (codes ": nested too deep\n")
+syntax_line syntax.OutOfMemory = codes "out of memory\n"
+
+-- the line of a program that breaks a typing rule, or has no `main`
+abbrev pub type_line : TypeError → List ℕ
+type_line (type.Unknown place) = place_line (codes "token ") place (codes ": unknown\n")
+type_line (type.Twice place) = place_line (codes "token ") place (codes ": twice\n")
+type_line (type.Recursive place) = place_line (codes "token ") place (codes ": recursive\n")
+type_line (type.Class place) = place_line (codes "token ") place (codes ": class\n")
+type_line (type.Shape place) = place_line (codes "token ") place (codes ": shape\n")
+type_line (type.Arity place) = place_line (codes "token ") place (codes ": arity\n")
+type_line (type.TooLong place) = place_line (codes "token ") place (codes ": too long\n")
+type_line (type.TooMany place) = place_line (codes "token ") place (codes ": too many\n")
+type_line type.NoMain = codes "no main\n"
+type_line type.OutOfMemory = codes "out of memory\n"
+
 -- the line of an answer, and of a run behind so many instructions
 abbrev pub line_of : TopEnd → ℕ → List ℕ
 line_of (Run Ended) retired = codes "ended retired " ++ decimal retired ++ codes " events 0\n"
 line_of (Run WriteFault) retired = codes "write fault\n"
 line_of Usage retired = codes "usage: run SOURCE SCRIPT INPUT FUEL KEY NONCE\n"
 line_of (TooLong file) retired = codes "too long: " ++ name_of file ++ codes "\n"
-line_of (Syntax (syntax.NotYet at)) retired = codes "byte " ++ decimal at ++ codes ": not yet\n"
-line_of (Syntax syntax.OutOfMemory) retired = codes "out of memory\n"
+line_of (Token error) retired = token_line error
+line_of (Syntax error) retired = syntax_line error
+line_of (Typing error) retired = type_line error
 line_of (NotYet file) retired = codes "not yet " ++ name_of file ++ codes "\n"
 line_of (NoFile file) retired = codes "no file: " ++ name_of file ++ codes "\n"
 line_of ReadFault retired = codes "read fault\n"

@@ -64,15 +64,14 @@ pub fn answer_words<F: Folder, K: Sink>(
 /// Runs what was prepared.
 fn answer_prepared<K: Sink>(alloc: Global, prepared: &Prepared, out: &mut K) -> Outcome
     requires unlimited { K.limit out.old ≡ None }
-    requires few { 11 * length prepared.now.program ≤ MAX_SOURCE_BYTES }
-    requires small { AllByRecursion (λ n. n < 2 ^ 32) prepared.now.program }
+    requires few { 5 * length prepared.now.literals.items ≤ MAX_SOURCE_BYTES }
 
     ensures sends { SendsOnly result.end (K.written out.old) (K.written out.new)
-        (released prepared.now.program) }
+        (released prepared.now.literals.items) }
     ensures fault { result.end ≡ TopEnd.Run End.WriteFault
         → Rose (K.faults out.old) (K.faults out.new) }
     ensures retired { result.end ≡ TopEnd.Run End.Ended
-        → result.retired ≡ 3 * length prepared.now.program + 1 }
+        → result.retired ≡ 2 * length prepared.now.literals.items + 1 }
     ensures steady { result.end ≢ TopEnd.Run End.WriteFault
         → K.faults out.new ≡ K.faults out.old }
 {
@@ -91,20 +90,19 @@ fn answer_prepared<K: Sink>(alloc: Global, prepared: &Prepared, out: &mut K) -> 
 /// Compiles what a source releases and runs it.
 fn execute<K: Sink>(alloc: Global, prepared: &Prepared, out: &mut K) -> Result<Ran, OutOfMemory>
     requires unlimited { K.limit out.old ≡ None }
-    requires few { 11 * length prepared.now.program ≤ MAX_SOURCE_BYTES }
-    requires small { AllByRecursion (λ n. n < 2 ^ 32) prepared.now.program }
+    requires few { 5 * length prepared.now.literals.items ≤ MAX_SOURCE_BYTES }
 
     ensures delivered { IfOk result (λ ran.
-        Delivers ran.end (K.written out.old) (K.written out.new) (released prepared.now.program)) }
+        Delivers ran.end (K.written out.old) (K.written out.new) (released prepared.now.literals.items)) }
     ensures fault { IfOk result (λ ran. ran.end ≡ End.WriteFault
         → Rose (K.faults out.old) (K.faults out.new)) }
     ensures retired { IfOk result (λ ran. ran.end ≡ End.Ended
-        → ran.retired ≡ 3 * length prepared.now.program + 1) }
+        → ran.retired ≡ 2 * length prepared.now.literals.items + 1) }
     ensures silent { OnErr result (K.written out.new ≡ K.written out.old) }
     ensures steady { IfOk result (λ ran. ran.end ≡ End.Ended
         → K.faults out.new ≡ K.faults out.old) }
     ensures untouched { OnErr result (K.faults out.new ≡ K.faults out.old) }
 {
-    let code = compile(alloc, prepared.program.literals())?;
+    let code = compile(alloc, prepared.literals.as_slice())?;
     machine::run(alloc, code.as_slice(), prepared.input.as_slice(), out)
 }

@@ -6,11 +6,8 @@ use aegis_num::OutOfMemory;
 use aegis_num::limits::MAX_SOURCE_BYTES;
 use std::alloc::Global;
 
-/// `l.movhi r3,0`
-const LOAD_HIGH: u32 = 0x1860_0000;
-
-/// `l.ori r3,r3,0`
-const LOAD_LOW: u32 = 0xa863_0000;
+/// `l.ori r3,r0,0`
+const LOAD_LOW: u32 = 0xa860_0000;
 
 /// `l.cust1 6`, which releases the low byte of r3.
 const RELEASE: u32 = 0x7000_0006;
@@ -26,7 +23,7 @@ const BLOCK_WORDS: usize = 16;
 
 /// The code of a source that releases these literals, in whole blocks.
 pub fn compile(alloc: Global, literals: &[u32]) -> Result<Vec<u32>, OutOfMemory>
-    requires { 11 * length literals.now ≤ MAX_SOURCE_BYTES }
+    requires { 5 * length literals.now ≤ MAX_SOURCE_BYTES }
     ensures { IfOk result (λ code. code.items ≡ code_of literals.now) }
 {
     let mut code = Vec::new(alloc);
@@ -39,13 +36,9 @@ pub fn compile(alloc: Global, literals: &[u32]) -> Result<Vec<u32>, OutOfMemory>
     Ok(code)
 }
 
-/// The words that release a literal.
-fn release_words(literal: u32) -> [u32; 3]
+/// The words that release a literal: only its low byte goes out, so its low half is enough.
+fn release_words(literal: u32) -> [u32; 2]
     ensures { result ≡ release_code literal }
 {
-    [
-        LOAD_HIGH + literal / 0x1_0000,
-        LOAD_LOW + literal % 0x1_0000,
-        RELEASE,
-    ]
+    [LOAD_LOW + literal % 0x1_0000, RELEASE]
 }

@@ -3,6 +3,8 @@ ghost use Rattle.std.specs.Prelude.{◌≡◌};
 ghost use Rattle.aegis_run.specs.Report.{status_when_noted, status_of as status_of_answer};
 
 use c_reader::SyntaxError;
+use c_token::TokenError;
+use c_types::TypeError;
 
 /// A file that the words on the command line name.
 #[derive(Clone, Copy, Debug, PartialEq, Eq)]
@@ -24,8 +26,8 @@ pub enum End {
     WriteFault,
 }
 
-/// The answer of the program. Want of memory is `OutOfMemory` alone, and never
-/// `Syntax(SyntaxError::OutOfMemory)`.
+/// The answer of the program. Want of memory is `OutOfMemory` alone, and never that of `Token`, `Syntax`
+/// or `Typing`.
 #[derive(Clone, Copy, Debug, PartialEq, Eq)]
 pub enum TopEnd {
     /// A run was started and ended so.
@@ -34,8 +36,12 @@ pub enum TopEnd {
     Usage,
     /// A file holds more bytes than it may.
     TooLong(File),
-    /// The source is not read.
+    /// The source has no tokens.
+    Token(TokenError),
+    /// The tokens of the source are no program.
     Syntax(SyntaxError),
+    /// The program breaks a typing rule, or has no `main`.
+    Typing(TypeError),
     /// The file asks for what is not built yet.
     NotYet(File),
     /// There is no file of this name.
@@ -71,7 +77,7 @@ fn status_of_noted(end: TopEnd) -> u8
     match end {
         TopEnd::Run(End::Ended) => 0,
         TopEnd::Usage => 1,
-        TopEnd::Syntax(_) => 2,
+        TopEnd::Token(_) | TopEnd::Syntax(_) | TopEnd::Typing(_) => 2,
         TopEnd::NoFile(_) | TopEnd::ReadFault => 4,
         TopEnd::Run(End::WriteFault) => 5,
         TopEnd::OutOfMemory => 6,

@@ -1,20 +1,28 @@
 //! The files that a run reads, in their order.
-ghost use Rattle.std.specs.Prelude.{◌≡◌, ◌≢◌, ◌≤◌, length, IfOk, IfErr, OnOk};
-ghost use Rattle.c_reader.specs.Source.{IsSource};
-ghost use Rattle.aegis_run.specs.Answer.{IsRead, AreTold, limit_for, CauseOfRun, IsRunOf};
+ghost use Rattle.std.specs.Prelude.{◌≡◌, ◌≢◌, ◌≤◌, ◌*◌, length, IfOk, IfErr, OnOk};
+ghost use Rattle.c_grammar.specs.Places.{Reads};
+ghost use Rattle.c_types.specs.Checked.{IsRead as IsReadProgram};
+ghost use Rattle.aegis_run.specs.Answer.{IsRead, AreTold, limit_for, CauseOfRun, IsRunOf, Releases};
+ghost use Rattle.aegis_run.specs.SourceText.{IsText, HasTokens, kinds_in};
+ghost use Rattle.aegis_run.specs.Literals.{literals_of as literals_are};
 ghost use Rattle.aegis_run.specs.Opening.{ParseCause, OpenCause, IsRefusal, names_of};
 
 use crate::ends::{File, TopEnd};
+use crate::literals::literals_of;
 use crate::words::RunWords;
 use aegis_edge::{Folder, FolderError};
+use aegis_num::OutOfMemory;
 use aegis_num::limits::{MAX_INPUT_BYTES, MAX_SCRIPT_BYTES, MAX_SOURCE_BYTES};
-use c_reader::{Program, SyntaxError, read_text};
+use c_grammar::Program;
+use c_reader::{SyntaxError, read_program};
+use c_token::{Token, TokenError, tokens};
+use c_types::{Checked, TypeError, check};
 use std::alloc::Global;
 
 /// What a run starts from.
 #[derive(Drop)]
 pub struct Prepared {
-    pub program: Program,
+    pub literals: Vec<u32>,
     pub input: Vec<u8>,
 }
 
@@ -25,7 +33,9 @@ pub fn prepare<F: Folder>(
     names: &RunWords<'_>,
 ) -> Result<Prepared, TopEnd>
     ensures ready { IfOk result (λ prepared.
-        IsRunOf (F.files folder.old) (names_of names.now) prepared.program) }
+        IsRunOf (F.files folder.old) (names_of names.now) prepared.literals.items) }
+    ensures few { IfOk result (λ prepared.
+        5 * length prepared.literals.items ≤ MAX_SOURCE_BYTES) }
     ensures refused { IfErr result (λ end.
         CauseOfRun (names_of names.now) (F.files folder.old)
         (F.faults folder.old) (F.faults folder.new) end) }
@@ -37,25 +47,71 @@ pub fn prepare<F: Folder>(
     ensures kept { F.files folder.new ≡ F.files folder.old }
 {
     let source = open(alloc, folder, names.source, File::Source)?;
-    let program = parse(alloc, source.as_slice())?;
+    let literals = parse(alloc, source.as_slice())?;
     let script = open(alloc, folder, names.script, File::Script)?;
     if !script.is_empty() {
         return Err(TopEnd::NotYet(File::Script));
     }
     let input = open(alloc, folder, names.input, File::Input)?;
-    Ok(Prepared { program, input })
+    Ok(Prepared { literals, input })
 }
 
 /// What a source releases.
-fn parse(alloc: Global, text: &[u8]) -> Result<Program, TopEnd>
+fn parse(alloc: Global, text: &[u8]) -> Result<Vec<u32>, TopEnd>
     requires { length text.now ≤ MAX_SOURCE_BYTES }
-    ensures read { IfOk result (λ program. IsSource text.now program) }
+    ensures read { IfOk result (λ literals. Releases text.now literals.items) }
+    ensures few { IfOk result (λ literals. 5 * length literals.items ≤ MAX_SOURCE_BYTES) }
     ensures refused { IfErr result (λ end. ParseCause text.now end) }
 {
-    match read_text(alloc, text) {
+    let tokens = tokens_in(alloc, text)?;
+    let program = program_in(alloc, text, tokens.as_slice())?;
+    let checked = checked_in(alloc, text, program)?;
+    match literals_of(alloc, checked.program()) {
+        Ok(Some(literals)) => Ok(literals),
+        Ok(None) => Err(TopEnd::NotYet(File::Source)),
+        Err(OutOfMemory) => Err(TopEnd::OutOfMemory),
+    }
+}
+
+/// The tokens of a text.
+fn tokens_in(alloc: Global, text: &[u8]) -> Result<Vec<Token>, TopEnd>
+    requires { length text.now ≤ MAX_SOURCE_BYTES }
+    ensures read { IfOk result (λ tokens. HasTokens text.now tokens.items) }
+    ensures few { IfOk result (λ tokens. length tokens.items ≤ length text.now) }
+    ensures refused { IfErr result (λ end. ParseCause text.now end) }
+{
+    match tokens(alloc, text) {
+        Ok(tokens) => Ok(tokens),
+        Err(TokenError::OutOfMemory) => Err(TopEnd::OutOfMemory),
+        Err(error) => Err(TopEnd::Token(error)),
+    }
+}
+
+/// The program of a text with these tokens.
+fn program_in(alloc: Global, text: &[u8], tokens: &[Token]) -> Result<Program, TopEnd>
+    requires few { length tokens.now ≤ MAX_SOURCE_BYTES }
+    requires lexed { HasTokens text.now tokens.now }
+    ensures read { IfOk result (λ program. Reads (kinds_in tokens.now) program) }
+    ensures refused { IfErr result (λ end. ParseCause text.now end) }
+{
+    match read_program(alloc, tokens) {
         Ok(program) => Ok(program),
-        Err(SyntaxError::NotYet { at }) => Err(TopEnd::Syntax(SyntaxError::NotYet { at })),
         Err(SyntaxError::OutOfMemory) => Err(TopEnd::OutOfMemory),
+        Err(error) => Err(TopEnd::Syntax(error)),
+    }
+}
+
+/// The program of a text, if it keeps the typing rules.
+fn checked_in(alloc: Global, text: &[u8], program: Program) -> Result<Checked, TopEnd>
+    requires is_text { IsText text.now program }
+    requires is_read { IsReadProgram program }
+    ensures program { IfOk result (λ checked. checked ≡ program) }
+    ensures refused { IfErr result (λ end. ParseCause text.now end) }
+{
+    match check(alloc, program) {
+        Ok(checked) => Ok(checked),
+        Err(TypeError::OutOfMemory) => Err(TopEnd::OutOfMemory),
+        Err(error) => Err(TopEnd::Typing(error)),
     }
 }
 

@@ -5,6 +5,7 @@ mod answer;
 mod compiler;
 mod ends;
 mod files;
+mod literals;
 mod machine;
 mod report;
 mod top;

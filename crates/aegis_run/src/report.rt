@@ -1,10 +1,12 @@
 //! The line of an answer on the notes.
 ghost use Rattle.std.specs.Prelude.{◌≡◌, ◌+◌, ◌≤◌, ◌++◌, length, decimal};
-ghost use Rattle.aegis_run.specs.Report.{line_of, name_of};
+ghost use Rattle.aegis_run.specs.Report.{line_of, name_of, place_line, syntax_line, token_line, type_line};
 
 use crate::ends::{End, File, TopEnd};
 use arrayvec::ArrayString;
 use c_reader::SyntaxError;
+use c_token::TokenError;
+use c_types::TypeError;
 use itoa::Buffer;
 
 /// A line with its line feed.
@@ -19,14 +21,56 @@ pub fn report_line(end: TopEnd, retired: u64) -> Line
         TopEnd::Run(End::WriteFault) => line_from("write fault", "", "\n"),
         TopEnd::Usage => line_from("usage: run SOURCE SCRIPT INPUT FUEL KEY NONCE", "", "\n"),
         TopEnd::TooLong(file) => line_from("too long: ", file_name(file), "\n"),
-        TopEnd::Syntax(SyntaxError::NotYet { at }) => {
-            line_with("byte ", u64::from(at), ": not yet\n")
-        }
-        TopEnd::Syntax(SyntaxError::OutOfMemory) => line_from("out of memory", "", "\n"),
+        TopEnd::Token(error) => report_token(error),
+        TopEnd::Syntax(error) => report_syntax(error),
+        TopEnd::Typing(error) => report_typing(error),
         TopEnd::NotYet(file) => line_from("not yet ", file_name(file), "\n"),
         TopEnd::NoFile(file) => line_from("no file: ", file_name(file), "\n"),
         TopEnd::ReadFault => line_from("read fault", "", "\n"),
         TopEnd::OutOfMemory => line_from("out of memory", "", "\n"),
+    }
+}
+
+/// The line of a text without tokens.
+fn report_token(error: TokenError) -> Line
+    ensures { result.bytes ≡ token_line error }
+{
+    match error {
+        TokenError::BadByte { at } => line_with("byte ", at as u64, ": bad byte\n"),
+        TokenError::OpenComment { at } => line_with("byte ", at as u64, ": open comment\n"),
+        TokenError::LongName { at } => line_with("byte ", at as u64, ": long name\n"),
+        TokenError::BadNumber { at } => line_with("byte ", at as u64, ": bad number\n"),
+        TokenError::BigNumber { at } => line_with("byte ", at as u64, ": big number\n"),
+        TokenError::OutOfMemory => line_from("out of memory", "", "\n"),
+    }
+}
+
+/// The line of tokens that are no program.
+fn report_syntax(error: SyntaxError) -> Line
+    ensures { result.bytes ≡ syntax_line error }
+{
+    match error {
+        SyntaxError::Expected { token } => line_with("token ", token as u64, ": unexpected\n"),
+        SyntaxError::Deep { token } => line_with("token ", token as u64, ": nested too deep\n"),
+        SyntaxError::OutOfMemory => line_from("out of memory", "", "\n"),
+    }
+}
+
+/// The line of a program that breaks a typing rule, or has no `main`.
+fn report_typing(error: TypeError) -> Line
+    ensures { result.bytes ≡ type_line error }
+{
+    match error {
+        TypeError::Unknown { at } => line_with("token ", at as u64, ": unknown\n"),
+        TypeError::Twice { at } => line_with("token ", at as u64, ": twice\n"),
+        TypeError::Recursive { at } => line_with("token ", at as u64, ": recursive\n"),
+        TypeError::Class { at } => line_with("token ", at as u64, ": class\n"),
+        TypeError::Shape { at } => line_with("token ", at as u64, ": shape\n"),
+        TypeError::Arity { at } => line_with("token ", at as u64, ": arity\n"),
+        TypeError::TooLong { at } => line_with("token ", at as u64, ": too long\n"),
+        TypeError::TooMany { at } => line_with("token ", at as u64, ": too many\n"),
+        TypeError::NoMain => line_from("no main", "", "\n"),
+        TypeError::OutOfMemory => line_from("out of memory", "", "\n"),
     }
 }
 
@@ -57,7 +101,7 @@ fn line_from(front: &str, middle: &str, back: &str) -> Line
 /// A line of a number between two texts.
 fn line_with(front: &str, number: u64, back: &str) -> Line
     requires { length front.now + length back.now ≤ 200 }
-    ensures { result.bytes ≡ front.now ++ decimal number ++ back.now }
+    ensures { result.bytes ≡ place_line front.now number back.now }
 {
     let mut buffer = Buffer::new();
     line_from(front, buffer.format(number), back)

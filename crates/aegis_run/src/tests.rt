@@ -3,6 +3,8 @@ use crate::top::aegis;
 use aegis_edge::{MemFolder, MemSink};
 use aegis_num::OutOfMemory;
 use c_reader::SyntaxError;
+use c_token::TokenError;
+use c_types::TypeError;
 use std::alloc::{AllocError, Global};
 use std::test::Fail;
 
@@ -23,7 +25,18 @@ fn folder_of(alloc: Global, failing: &[u64]) -> Result<MemFolder, OutOfMemory> {
     let mut folder = MemFolder::new(alloc, failing)?;
     folder.add("hi", b"int main(void){release(72);release(105);return 0;}")?;
     folder.add("low", b"int main(void){release(328);return 0;}")?;
-    folder.add("bad", b"int main(void){release(72);release(x);return 0;}")?;
+    folder.add("other", b"int main(void){while(0);return 0;}")?;
+    folder.add(
+        "signs",
+        b"int main(void){release(0x48);/* i */release(105u);return 0;}",
+    )?;
+    folder.add("open", b"int main(void){release(72)return 0;}")?;
+    folder.add(
+        "deep",
+        b"int main(void){release(((((((((((((((((((((((((((((((((((((((((((((((((((((((((((((((((72);return 0;}",
+    )?;
+    folder.add("self", b"int f(void){return f();}int main(void){return 0;}")?;
+    folder.add("at", b"int main(void){@}")?;
     folder.add("none", b"")?;
     folder.add("byte", b"#")?;
     Ok(folder)
@@ -36,30 +49,81 @@ fn rows(rt: HostRuntime) -> Result<(), Fail> {
     let ended = TopEnd::Run(End::Ended);
     let cut = TopEnd::Run(End::WriteFault);
     let fault = TopEnd::ReadFault;
-    let place = TopEnd::Syntax(SyntaxError::NotYet { at: 35 });
+    let byte = TopEnd::Token(TokenError::BadByte { at: 15 });
+    let open = TopEnd::Syntax(SyntaxError::Expected { token: 10 });
+    let deep = TopEnd::Syntax(SyntaxError::Deep { token: 71 });
+    let calls = TopEnd::Typing(TypeError::Recursive { at: 7 });
+    let no_main = TopEnd::Typing(TypeError::NoMain);
+    let source = TopEnd::NotYet(File::Source);
     let absent = TopEnd::NoFile(File::Script);
     let script = TopEnd::NotYet(File::Script);
-    let four = "ended retired 4 events 0\n";
-    let seven = "ended retired 7 events 0\n";
+    let three = "ended retired 3 events 0\n";
+    let five = "ended retired 5 events 0\n";
     let all: &[u64] = &[];
     let whole: &[(u64, u64)] = &[];
     for (files, reads, writes, end, out, line, status) in [
-        (hi, all, whole, ended, "Hi", seven, 0),
-        (hi, &[3], whole, ended, "Hi", seven, 0),
-        (["low", "none", "byte"], all, whole, ended, "H", four, 0),
+        (hi, all, whole, ended, "Hi", five, 0),
+        (hi, &[3], whole, ended, "Hi", five, 0),
+        (["low", "none", "byte"], all, whole, ended, "H", three, 0),
         (hi, &[0], whole, fault, "", "read fault\n", 4),
         (hi, &[1], whole, fault, "", "read fault\n", 4),
         (hi, &[2], whole, fault, "", "read fault\n", 4),
         (hi, all, &[(0, 0)], cut, "", "write fault\n", 5),
         (hi, all, &[(1, 0)], cut, "H", "write fault\n", 5),
+        (["signs", "none", "none"], all, whole, ended, "Hi", five, 0),
         (
-            ["bad", "gone", "gone"],
+            ["at", "gone", "gone"],
             &[1],
             whole,
-            place,
+            byte,
             "",
-            "byte 35: not yet\n",
+            "byte 15: bad byte\n",
             2,
+        ),
+        (
+            ["open", "gone", "gone"],
+            &[1],
+            whole,
+            open,
+            "",
+            "token 10: unexpected\n",
+            2,
+        ),
+        (
+            ["deep", "gone", "gone"],
+            &[1],
+            whole,
+            deep,
+            "",
+            "token 71: nested too deep\n",
+            2,
+        ),
+        (
+            ["self", "gone", "gone"],
+            &[1],
+            whole,
+            calls,
+            "",
+            "token 7: recursive\n",
+            2,
+        ),
+        (
+            ["none", "gone", "gone"],
+            &[1],
+            whole,
+            no_main,
+            "",
+            "no main\n",
+            2,
+        ),
+        (
+            ["other", "gone", "gone"],
+            &[1],
+            whole,
+            source,
+            "",
+            "not yet source\n",
+            9,
         ),
         (
             ["hi", "gone", "gone"],
@@ -103,7 +167,7 @@ fn fuel_and_notes(rt: HostRuntime) -> Result<(), Fail> {
             "33554432",
             ended,
             "Hi",
-            "ended retired 7 events 0\n",
+            "ended retired 5 events 0\n",
             true,
             0,
         ),

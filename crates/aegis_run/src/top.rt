@@ -2,16 +2,17 @@
 ghost use Rattle.std.specs.Prelude.{◌≡◌, ◌≢◌, ◌≤◌, ◌↔◌, ℕ, List, [], false, IsTrue, None, IfSome, length};
 ghost use Rattle.aegis_edge.specs.Faults.{Rose};
 ghost use Rattle.aegis_edge.specs.Sink.{Appends, AppendsFront};
-ghost use Rattle.c_reader.specs.Source.{IsSource};
 ghost use Rattle.aegis_run.specs.Words.{names_in};
-ghost use Rattle.aegis_run.specs.Answer.{Lacks, Exceeds, IsRefused, HoldsScript, IsRunOf, AreTold, IsRead, PassesSource, RefusesSource, RefusesScript, StartsRun, released, IsRetired};
+ghost use Rattle.aegis_run.specs.Answer.{Lacks, Exceeds, IsRefused, IsSurelyRefused, HoldsScript, IsRunOf, AreTold, IsRead, PassesSource, IsOrFails, RefusesScript, StartsRun, released, IsRetired};
 ghost use Rattle.aegis_run.specs.Report.{line_of, status_of as status_of_answer};
 
 use crate::answer::answer_words;
 use crate::ends::{End, File, Finish, TopEnd, status_of};
 use crate::report::report_line;
 use aegis_edge::{Folder, Sink};
-use c_reader::SyntaxError;
+use c_reader::{SyntaxError, one_program};
+use c_token::TokenError;
+use c_types::TypeError;
 use std::alloc::Global;
 
 /// Does what the words behind the program's name say: `run SOURCE SCRIPT INPUT FUEL KEY NONCE` reads
@@ -40,17 +41,39 @@ pub fn aegis<F: Folder, K: Sink, N: Sink>(
     ensures read_fault { result.end ≡ TopEnd.ReadFault
         → Rose (F.faults folder.old) (F.faults folder.new) }
 
-    // The source is not of the form that is read, and the place is exact.
-    ensures not_yet { (at : ℕ) → result.end ≡ TopEnd.Syntax (SyntaxError.NotYet at)
-        → IfSome (names_in words.now) (λ names. IsRefused (F.files folder.old) names at) }
-    ensures not_yet_where { IfSome (names_in words.now) (λ names. (at : ℕ)
-        → AreTold (F.files folder.old) → IsRefused (F.files folder.old) names at
-        → RefusesSource result.end) }
-
-    // The script holds a byte.
-    ensures not_yet_script { (file : File) → result.end ≡ TopEnd.NotYet file
+    // The source has no tokens, or these are no program, or it breaks a typing rule, or it is a program
+    // that is not run yet.
+    ensures token { (error : TokenError) → result.end ≡ TopEnd.Token error
         → IfSome (names_in words.now) (λ names.
-        (file ≡ File.Script) × HoldsScript (F.files folder.old) names) }
+        IsRefused (F.files folder.old) names (TopEnd.Token error)) }
+    ensures token_where { (error : TokenError) → IfSome (names_in words.now) (λ names.
+        AreTold (F.files folder.old) → IsRefused (F.files folder.old) names (TopEnd.Token error)
+        → IsOrFails (TopEnd.Token error) result.end) }
+    ensures syntax { (error : SyntaxError) → result.end ≡ TopEnd.Syntax error
+        → IfSome (names_in words.now) (λ names.
+        IsRefused (F.files folder.old) names (TopEnd.Syntax error)) }
+    ensures syntax_where { (error : SyntaxError) → IfSome (names_in words.now) (λ names.
+        AreTold (F.files folder.old) → IsRefused (F.files folder.old) names (TopEnd.Syntax error)
+        → IsOrFails (TopEnd.Syntax error) result.end) }
+    ensures typing { (error : TypeError) → result.end ≡ TopEnd.Typing error
+        → IfSome (names_in words.now) (λ names.
+        IsRefused (F.files folder.old) names (TopEnd.Typing error)) }
+    ensures typing_where { (error : TypeError) → IfSome (names_in words.now) (λ names.
+        AreTold (F.files folder.old)
+        → IsSurelyRefused (F.files folder.old) names (TopEnd.Typing error)
+        → IsOrFails (TopEnd.Typing error) result.end) }
+    ensures not_yet_source { result.end ≡ TopEnd.NotYet File.Source
+        → IfSome (names_in words.now) (λ names.
+        IsRefused (F.files folder.old) names (TopEnd.NotYet File.Source)) }
+    ensures not_yet_source_where { IfSome (names_in words.now) (λ names.
+        AreTold (F.files folder.old)
+        → IsSurelyRefused (F.files folder.old) names (TopEnd.NotYet File.Source)
+        → IsOrFails (TopEnd.NotYet File.Source) result.end) }
+
+    // The script holds a byte. No other file is one that asks for what is not built.
+    ensures not_yet_script { result.end ≡ TopEnd.NotYet File.Script
+        → IfSome (names_in words.now) (λ names. HoldsScript (F.files folder.old) names) }
+    ensures not_yet_input { result.end ≢ TopEnd.NotYet File.Input }
     ensures not_yet_script_where { IfSome (names_in words.now) (λ names.
         AreTold (F.files folder.old) → HoldsScript (F.files folder.old) names
         → RefusesScript result.end) }
@@ -60,7 +83,9 @@ pub fn aegis<F: Folder, K: Sink, N: Sink>(
     ensures run_where { IfSome (names_in words.now) (λ names. (literals : List ℕ)
         → AreTold (F.files folder.old) → IsRunOf (F.files folder.old) names literals
         → StartsRun result.end) }
-    ensures memory_alone { result.end ≢ TopEnd.Syntax SyntaxError.OutOfMemory }
+    ensures memory_token { result.end ≢ TopEnd.Token TokenError.OutOfMemory }
+    ensures memory_syntax { result.end ≢ TopEnd.Syntax SyntaxError.OutOfMemory }
+    ensures memory_typing { result.end ≢ TopEnd.Typing TypeError.OutOfMemory }
 
     // The files are as before.
     ensures kept { F.files folder.new ≡ F.files folder.old }
@@ -97,6 +122,7 @@ pub fn aegis<F: Folder, K: Sink, N: Sink>(
     ensures line_steady { IsTrue result.noted → N.faults notes.new ≡ N.faults notes.old }
     ensures status { result.status ≡ status_of_answer result.end result.noted }
 {
+    one_program();
     let outcome = answer_words(alloc, words, folder, out);
     noted(outcome.end, outcome.retired, notes)
 }

@@ -7,30 +7,30 @@ use Rattle.aegis_run.proofs.answer.execute.Goals as goal
 
 pub run-requires-clause-whole : goal.run-requires-clause-whole
 run-requires-clause-whole g c =
-    let same : c.as_slice.result.now ≡ code_of c.args.prepared.now.program = c.as_slice.ensures.value ∙ c.in_ok-code.ensures ∙ ap code_of c.literals.ensures in
-    let done = compiled c.as_slice.result.now c.args.prepared.now.program same c.requires.few c.requires.small in
+    let same : c.as_slice-2.result.now ≡ code_of c.args.prepared.now.literals.items = c.as_slice-2.ensures.value ∙ c.in_ok-code.ensures ∙ ap code_of c.as_slice.ensures.value in
+    let done = compiled c.as_slice-2.result.now c.args.prepared.now.literals.items same c.requires.few in
     done.whole
 
 pub run-requires-clause-short : goal.run-requires-clause-short
 run-requires-clause-short g c =
-    let same : c.as_slice.result.now ≡ code_of c.args.prepared.now.program = c.as_slice.ensures.value ∙ c.in_ok-code.ensures ∙ ap code_of c.literals.ensures in
-    let done = compiled c.as_slice.result.now c.args.prepared.now.program same c.requires.few c.requires.small in
+    let same : c.as_slice-2.result.now ≡ code_of c.args.prepared.now.literals.items = c.as_slice-2.ensures.value ∙ c.in_ok-code.ensures ∙ ap code_of c.as_slice.ensures.value in
+    let done = compiled c.as_slice-2.result.now c.args.prepared.now.literals.items same c.requires.few in
     done.short
 
 pub run-requires-clause-straight : goal.run-requires-clause-straight
 run-requires-clause-straight g c =
-    let same : c.as_slice.result.now ≡ code_of c.args.prepared.now.program = c.as_slice.ensures.value ∙ c.in_ok-code.ensures ∙ ap code_of c.literals.ensures in
-    let done = compiled c.as_slice.result.now c.args.prepared.now.program same c.requires.few c.requires.small in
-    (3 * length c.args.prepared.now.program + 1, released c.args.prepared.now.program, done.steps, done.runs)
+    let same : c.as_slice-2.result.now ≡ code_of c.args.prepared.now.literals.items = c.as_slice-2.ensures.value ∙ c.in_ok-code.ensures ∙ ap code_of c.as_slice.ensures.value in
+    let done = compiled c.as_slice-2.result.now c.args.prepared.now.literals.items same c.requires.few in
+    (2 * length c.args.prepared.now.literals.items + 1, released c.args.prepared.now.literals.items, done.steps, done.runs)
 
 pub returns-clause-delivered : goal.returns-clause-delivered
 returns-clause-delivered g c =
-    let same : c.as_slice.result.now ≡ code_of c.args.prepared.now.program = c.as_slice.ensures.value ∙ c.in_ok-code.ensures ∙ ap code_of c.literals.ensures in
-    let done = compiled c.as_slice.result.now c.args.prepared.now.program same c.requires.few c.requires.small in
-    IfOk-weaker c.run.result _ _ (λ ran delivers. delivers (3 * length c.args.prepared.now.program + 1) (released c.args.prepared.now.program) done.runs) c.run.ensures.delivered
+    let same : c.as_slice-2.result.now ≡ code_of c.args.prepared.now.literals.items = c.as_slice-2.ensures.value ∙ c.in_ok-code.ensures ∙ ap code_of c.as_slice.ensures.value in
+    let done = compiled c.as_slice-2.result.now c.args.prepared.now.literals.items same c.requires.few in
+    IfOk-weaker c.run.result _ _ (λ ran delivers. delivers (2 * length c.args.prepared.now.literals.items + 1) (released c.args.prepared.now.literals.items) done.runs) c.run.ensures.delivered
 
 pub returns-clause-retired : goal.returns-clause-retired
 returns-clause-retired g c =
-    let same : c.as_slice.result.now ≡ code_of c.args.prepared.now.program = c.as_slice.ensures.value ∙ c.in_ok-code.ensures ∙ ap code_of c.literals.ensures in
-    let done = compiled c.as_slice.result.now c.args.prepared.now.program same c.requires.few c.requires.small in
-    IfOk-weaker c.run.result _ _ (λ ran counts ended. counts ended (3 * length c.args.prepared.now.program + 1) (released c.args.prepared.now.program) done.runs) c.run.ensures.retired
+    let same : c.as_slice-2.result.now ≡ code_of c.args.prepared.now.literals.items = c.as_slice-2.ensures.value ∙ c.in_ok-code.ensures ∙ ap code_of c.as_slice.ensures.value in
+    let done = compiled c.as_slice-2.result.now c.args.prepared.now.literals.items same c.requires.few in
+    IfOk-weaker c.run.result _ _ (λ ran counts ended. counts ended (2 * length c.args.prepared.now.literals.items + 1) (released c.args.prepared.now.literals.items) done.runs) c.run.ensures.retired
