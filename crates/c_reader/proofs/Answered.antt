@@ -3,7 +3,7 @@ use Rattle.std.proofs.Common.{◌≡◌, ℕ, zero, suc, ◌+◌, ◌<◌, ◌�
 use Rattle.std.proofs.lemmas.List.{map-append}
 use Rattle.c_token.specs.declared.kinds.Kind.{Kind}
 use Rattle.c_grammar.specs.declared.item.Program.{Program}
-use Rattle.c_grammar.specs.Tokens.{Tok, Spot, Bounded, tok_of, toks_of, kinds_of, numbered, bounded_all}
+use Rattle.c_grammar.specs.Tokens.{Tok, Bounded, tok_of, toks_of, kinds_of, numbered, bounded_all}
 use Rattle.c_grammar.specs.Programs.{IsProgram}
 use Rattle.c_grammar.specs.Places.{Reads, AreLimited, IsText, BeginsWithin, Begins, IsExpectedAt, IsDeepAt, IsShallowBefore}
 use Rattle.c_grammar.specs.Alike.{AllAlike, none_left, one_more}
@@ -15,7 +15,7 @@ use Rattle.c_reader.specs.Parser.{Reason, expected, deep, exhausted, Outcome, do
 use Rattle.c_reader.specs.Programs.{program}
 use Rattle.c_reader.specs.Reads.{place_or, Answers}
 use Rattle.c_reader.specs.Refusals.{IsRefusedAs, OneProgram}
-use Rattle.c_reader.proofs.Holds.{Alike, Opens, Holds, reaches, stops, Reaches, Stops}
+use Rattle.c_reader.proofs.Holds.{Alike, Opens, Holds, reaches, stops, Stops}
 use Rattle.c_reader.proofs.Comes.{To, arrives, late}
 use Rattle.c_reader.proofs.Declaring.{program_at}
 use Rattle.c_reader.proofs.Recognising.{program_goes}

@@ -1,10 +1,6 @@
 -- Statements and blocks.
-use Rattle.std.proofs.Common.{◌≡◌, ℕ, zero, suc, ◌+◌, ◌<◌, ◌≤◌, ◌⊎◌, inl, inr, length, Bool, true, false, cond, not, List, [], ◌∷◌, ◌++◌, Option, Some, None, refl, sym, ap, ◌∙◌, subst, true≢false, arith, append_assoc, append-nil, length-append}
-use Rattle.std.proofs.lemmas.Grind.{common_steps}
-use Rattle.arrayvec.specs.ArrayString.{ArrayString}
-use Rattle.c_token.specs.declared.signs.Sign.{Sign}
+use Rattle.std.proofs.Common.{◌≡◌, ℕ, zero, suc, ◌+◌, ◌<◌, length, Bool, true, false, cond, not, List, [], ◌∷◌, ◌++◌, Option, Some, None, refl, sym, ap, ◌∙◌, subst, true≢false, arith, append_assoc, append-nil, length-append}
 use Rattle.c_token.specs.declared.signs.Sign.TheVariants as signs
-use Rattle.c_token.specs.declared.words.Word.{Word}
 use Rattle.c_token.specs.declared.words.Word.TheVariants as words
 use Rattle.c_token.specs.declared.kinds.Kind.{Kind}
 use Rattle.c_token.specs.declared.kinds.Kind.TheVariants as kinds
@@ -13,23 +9,20 @@ use Rattle.c_grammar.specs.declared.stmt.Stmt.{Stmt}
 use Rattle.c_grammar.specs.declared.stmt.Stmt.TheVariants as stmt
 use Rattle.c_grammar.specs.Tokens as g
 use Rattle.c_grammar.specs.Tokens.{Tok, Spot, Bounded, tok_of, bounded, bounded_all}
-use Rattle.c_grammar.specs.Expressions.{Expression, Arguments}
 use Rattle.c_grammar.specs.Statements as gr
 use Rattle.c_grammar.specs.Statements.{IsType, Local, Simple, Maybe, First, Step, Statement, Body}
 use Rattle.c_reader.specs.declared.statement.Start.{Start}
 use Rattle.c_reader.specs.declared.statement.Start.TheVariants as start
-use Rattle.c_reader.specs.declared.statement.Plain.{Plain}
-use Rattle.c_reader.specs.declared.statement.Plain.TheVariants as plain
 use Rattle.c_reader.specs.declared.statement.LoopHead.{LoopHead}
 use Rattle.c_reader.specs.declared.statement.Braces.{Braces}
-use Rattle.c_reader.specs.Parser.{Reason, expected, deep, exhausted, Outcome, done, stop, Parser, follow, ◌>>=◌, gives, refuses, first_kind, is_at_sign, is_at_word, sign, word, name, level, all}
+use Rattle.c_reader.specs.Parser.{Reason, expected, deep, Outcome, done, stop, Parser, follow, ◌>>=◌, gives, refuses, first_kind, is_at_word, sign, word, level}
 use Rattle.c_reader.specs.Statements as p
 use Rattle.c_reader.specs.Statements.{start_of, start_at, plain_of, plain_at, begins_simple, begins_statement}
-use Rattle.c_reader.proofs.Holds.{Seq, seq, Mapped, mapped, Alike, Holds, reaches, stops, Reaches, Stops, HoldsAt, Always, Full, mono, bind, behind, before, bind_at, mapping, mapped_at, same_parser, by_first, dispatch, head_kind, Nothing, nothing, giving, free, no_text, full_seq, full_mapped, full_sign, full_word, Takes, Many, none_left, one_more, OpensSign, opens_sign, OpensWord, opens_word, above, above_at, above_ok, opening_sign, opening_word, deep_first, IsSign, is_sign, signing, IsWord, is_word, wording, refusing}
+use Rattle.c_reader.proofs.Holds.{Seq, seq, Mapped, mapped, Alike, Holds, reaches, stops, Reaches, HoldsAt, Always, Full, mono, bind, behind, before, bind_at, mapping, mapped_at, by_first, dispatch, head_kind, Nothing, nothing, giving, free, no_text, full_seq, full_mapped, full_sign, Takes, Many, none_left, one_more, OpensSign, opens_sign, OpensWord, opens_word, above, above_at, above_ok, opening_sign, opening_word, deep_first, IsSign, is_sign, signing, IsWord, is_word, wording, refusing}
 use Rattle.c_reader.proofs.Lists.{head_sign, head_word, listing}
-use Rattle.c_reader.proofs.Chains.{zero_token, zero_tree, zero_expression}
+use Rattle.c_reader.proofs.Chains.{zero_expression}
 use Rattle.c_reader.proofs.Expressing.{if_sign}
-use Rattle.c_reader.proofs.Stating.{if_word, maybe_at, Condition, condition, condition_at, full_condition, below, local_made, local_inside_at, simple_inside_at, plain_ended_at, empty_at}
+use Rattle.c_reader.proofs.Stating.{if_word, maybe_at, Condition, condition, condition_at, full_condition, local_made, local_inside_at, simple_inside_at, plain_ended_at, empty_at}
 
 pub deep_on : (limit : ℕ) {A : Type 0} {R : List Bounded → A → Type 0} (s : List Tok) (bound : ℕ) (ok : Option Kind → Bool) → ok None ≡ false → ok (first_kind s) ≡ true
     → ((k : Kind) → ok (Some k) ≡ true → (place : ℕ) → (more : List Bounded) × (x : A) × R (record { spot = record { place = place; bound = bound }; kind = k } ∷ more) x)

@@ -1,9 +1,8 @@
 -- Operators of two operands.
-use Rattle.std.proofs.Common.{◌≡◌, ℕ, zero, suc, ◌+◌, ◌<◌, ◌≤◌, length, Bool, true, false, cond, ltb, List, [], ◌∷◌, ◌++◌, Option, Some, None, refl, sym, ap, ◌∙◌, subst, true≢false, arith, append_assoc, append-nil, le-ltb, lt-ltb}
+use Rattle.std.proofs.Common.{◌≡◌, ℕ, zero, suc, ◌+◌, ◌<◌, length, Bool, true, false, cond, ltb, List, [], ◌∷◌, ◌++◌, Option, Some, None, refl, sym, ap, ◌∙◌, subst, arith, append_assoc, append-nil}
 use Rattle.std.proofs.lemmas.Bool.{ltb-true}
 use Rattle.std.proofs.lemmas.Grind.{common_steps}
 use Rattle.c_token.specs.declared.signs.Sign.{Sign}
-use Rattle.c_token.specs.declared.signs.Sign.TheVariants as signs
 use Rattle.c_token.specs.declared.kinds.Kind.{Kind}
 use Rattle.c_token.specs.declared.kinds.Kind.TheVariants as kinds
 use Rattle.c_grammar.specs.declared.expr.Expr.{Expr}
@@ -11,11 +10,11 @@ use Rattle.c_grammar.specs.declared.expr.Expr.TheVariants as expr
 use Rattle.c_grammar.specs.Tokens as g
 use Rattle.c_grammar.specs.Tokens.{Tok, Spot, Bounded, tok_of, bounded, bounded_all}
 use Rattle.c_grammar.specs.Signs.{rank}
-use Rattle.c_grammar.specs.Expressions.{Expression, whole, Binary, alone, tighter, both, Unary, primary, Primary, literal}
+use Rattle.c_grammar.specs.Expressions.{Expression, whole, Binary, alone, tighter, both, Unary, primary, literal}
 use Rattle.c_reader.specs.declared.expression.Grown.{Grown}
-use Rattle.c_reader.specs.Parser.{Reason, expected, deep, exhausted, Outcome, done, stop, Parser, follow, ◌>>=◌, gives, first_kind, sign}
+use Rattle.c_reader.specs.Parser.{deep, Outcome, done, stop, Parser, follow, ◌>>=◌, gives, first_kind, sign}
 use Rattle.c_reader.specs.Expressions.{rank_of, operator_of, operator_at, joined, chain_with, chain, chained, binary}
-use Rattle.c_reader.proofs.Holds.{Seq, seq, Mapped, mapped, Alike, Holds, reaches, stops, Always, Full, mono, bind, bind_known, mapping, mapped_at, same_parser, dispatch, head_kind, Nothing, nothing, giving, free, full_mapped, Takes, strict_of, OpensSign, opens_sign, above, above_at, above_ok, opening_sign, deep_first}
+use Rattle.c_reader.proofs.Holds.{Seq, seq, Mapped, mapped, Alike, Holds, Always, Full, mono, bind, bind_known, mapping, same_parser, dispatch, head_kind, Nothing, nothing, giving, free, full_mapped, Takes, strict_of, OpensSign, opens_sign, above_at, above_ok, opening_sign, deep_first}
 
 -- an operator of this rank stands first
 pub operator_known : (k : ℕ) (o : Option Kind) (op : Sign) → operator_of k o ≡ Some op → (o ≡ Some (kinds.Sign op)) × (rank_of op ≡ k)

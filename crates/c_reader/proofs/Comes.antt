@@ -1,16 +1,12 @@
 -- What the grammar has is read, or reading stops at a token that nests too deep.
-use Rattle.std.proofs.Common.{◌≡◌, ℕ, zero, suc, ◌+◌, ◌<◌, ◌≤◌, Bool, true, false, cond, List, [], ◌∷◌, ◌++◌, Option, Some, None, refl, sym, ap, ◌∙◌, subst, true≢false, arith, append_assoc, append-nil}
+use Rattle.std.proofs.Common.{◌≡◌, ℕ, ◌<◌, Bool, true, List, [], ◌∷◌, ◌++◌, sym, ap, ◌∙◌, subst, arith, append_assoc}
 use Rattle.std.proofs.lemmas.List.{map-append}
 use Rattle.c_token.specs.declared.signs.Sign.{Sign}
 use Rattle.c_token.specs.declared.words.Word.{Word}
-use Rattle.c_token.specs.declared.kinds.Kind.{Kind}
-use Rattle.c_token.specs.declared.kinds.Kind.TheVariants as kinds
 use Rattle.arrayvec.specs.ArrayString.{ArrayString}
 use Rattle.c_grammar.specs.Tokens as g
 use Rattle.c_grammar.specs.Tokens.{Tok, Spot, Bounded, tok_of, toks_of}
-use Rattle.c_reader.specs.declared.cursor.Named.{Named}
-use Rattle.c_reader.specs.declared.cursor.Numeral.{Numeral}
-use Rattle.c_reader.specs.Parser.{Reason, expected, deep, exhausted, Outcome, done, stop, Parser, follow, ◌>>=◌, gives, first_kind, is_some_sign, is_some_word, is_at_sign, is_at_word, passed, sign, word, name, number}
+use Rattle.c_reader.specs.Parser.{deep, Outcome, done, stop, Parser, follow, gives, is_at_sign, is_at_word, passed, sign, word, name, number}
 use Rattle.c_token.specs.contracts.signs.SignPartialEq.TheImpl as sign_eq
 use Rattle.c_token.specs.contracts.words.WordPartialEq.TheImpl as word_eq
 

@@ -1,12 +1,12 @@
 -- Lists of the grammar are read, or nest too deep.
-use Rattle.std.proofs.Common.{◌≡◌, ℕ, zero, suc, ◌<◌, Bool, true, false, List, [], ◌∷◌, ◌++◌, Option, Some, None, refl, sym, ap, ◌∙◌, subst, arith, append_assoc, append-nil}
+use Rattle.std.proofs.Common.{◌≡◌, ℕ, Bool, true, false, List, [], ◌∷◌, ◌++◌, refl, sym, ap, ◌∙◌, subst}
 use Rattle.c_token.specs.declared.signs.Sign.TheVariants as signs
 use Rattle.c_grammar.specs.Tokens as g
 use Rattle.c_grammar.specs.Tokens.{Tok, Spot, Bounded, tok_of, toks_of}
-use Rattle.c_reader.specs.Parser.{Reason, Outcome, done, stop, Parser, follow, ◌>>=◌, gives, first_kind, is_at_sign, sign, all, behind_comma, separated}
-use Rattle.c_reader.proofs.Holds.{Alike, Always, Full, Takes, Seq, seq, Mapped, mapped, Many, none_left, one_more, IsSign, is_sign}
+use Rattle.c_reader.specs.Parser.{done, Parser, follow, is_at_sign, sign, all, behind_comma, separated}
+use Rattle.c_reader.proofs.Holds.{Alike, Always, Full, Takes, Seq, seq, Mapped, mapped, Many, none_left, one_more, is_sign}
 use Rattle.c_reader.proofs.Lists.{Comma, all_turn, turn, behind_one, head_sign, comma_takes, after_comma}
-use Rattle.c_reader.proofs.Comes.{To, arrives, late, Goes, step, map_to, put-append, sign_goes}
+use Rattle.c_reader.proofs.Comes.{To, arrives, Goes, step, map_to, put-append, sign_goes}
 
 module _ (limit : ℕ) {A : Type 0} (follows : List Tok → Bool) {p : Parser A} {R : List Bounded → A → Type 0}
     (head : (s t : List Tok) → Alike s t → follows s ≡ follows t) (always : Always limit p R) (takes : Takes R)

@@ -1,6 +1,6 @@
 -- Every expression of the grammar is read, or nests too deep.
-use Rattle.std.proofs.Common.{◌≡◌, ℕ, zero, suc, ◌+◌, ◌<◌, ◌≤◌, Bool, true, false, cond, eqb, ltb, List, [], ◌∷◌, ◌++◌, Option, Some, None, refl, sym, ap, ◌∙◌, subst, true≢false, arith, append_assoc, append-nil}
-use Rattle.std.proofs.lemmas.Bool.{ltb-true, ltb-false, eq-eqb, ne_eqb}
+use Rattle.std.proofs.Common.{◌≡◌, ℕ, zero, suc, ◌+◌, ◌<◌, ◌≤◌, Bool, true, false, cond, ltb, List, [], ◌∷◌, ◌++◌, Option, Some, None, refl, sym, ap, ◌∙◌, subst, arith, append-nil}
+use Rattle.std.proofs.lemmas.Bool.{ltb-false, eq-eqb, ne_eqb}
 use Rattle.c_token.specs.declared.signs.Sign.{Sign}
 use Rattle.c_token.specs.declared.signs.Sign.TheVariants as signs
 use Rattle.c_token.specs.declared.words.Word.TheVariants as words
@@ -14,18 +14,16 @@ use Rattle.c_grammar.specs.Tokens.{Tok, Spot, Bounded, tok_of, toks_of}
 use Rattle.c_grammar.specs.Signs.{rank, is_unary_operator}
 use Rattle.c_grammar.specs.Expressions as gr
 use Rattle.c_grammar.specs.Expressions.{Expression, whole, Binary, alone, tighter, both, Unary, primary, operation, Primary, literal, variable, element, parenthesised, Arguments, Listed, further}
-use Rattle.c_reader.specs.declared.cursor.Named.{Named}
-use Rattle.c_reader.specs.declared.expression.Bracketed.{Bracketed}
 use Rattle.c_reader.specs.declared.expression.Grown.{Grown}
-use Rattle.c_reader.specs.Parser.{Reason, expected, deep, exhausted, Outcome, done, stop, Parser, follow, ◌>>=◌, gives, first_kind, is_some_sign, is_at_sign, sign, word, name, number, separated}
+use Rattle.c_reader.specs.Parser.{deep, Outcome, done, stop, Parser, follow, ◌>>=◌, gives, first_kind, is_some_sign, is_at_sign, sign, word, name}
 use Rattle.c_reader.specs.Expressions as p
 use Rattle.c_reader.specs.Expressions.{rank_of, operator_at, is_unary, unary_of, Inside, opened}
-use Rattle.c_reader.proofs.Holds.{Always, Full, Seq, seq, Mapped, mapped, Many, none_left, one_more, IsSign, is_sign}
+use Rattle.c_reader.proofs.Holds.{Always, Seq, seq, Mapped, mapped, Many, none_left, one_more, is_sign}
 use Rattle.c_reader.proofs.Lists.{Comma}
 use Rattle.c_reader.proofs.ComesLists.{separated_reads}
 use Rattle.c_reader.proofs.Expressing.{Inner, expressing, unary_in_at, inside_at}
-use Rattle.c_reader.proofs.Chains.{zero_expression, Operand, ranks, binary_at, chained_turn, turn}
-use Rattle.c_reader.proofs.Comes.{To, arrives, late, Goes, linked, followed, put-append, shift, onward, step, map_to, sign_goes, name_goes, number_goes, word_goes}
+use Rattle.c_reader.proofs.Chains.{zero_expression, ranks, binary_at, chained_turn, turn}
+use Rattle.c_reader.proofs.Comes.{To, arrives, late, Goes, linked, followed, put-append, step, map_to, sign_goes, name_goes, number_goes, word_goes}
 
 -- An expression of this rank ends before what is left.
 pub record Ends (k : ℕ) (rest : List Tok) : Type 0 where

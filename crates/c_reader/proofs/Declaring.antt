@@ -1,10 +1,8 @@
 -- Declarations and whole programs.
-use Rattle.std.proofs.Common.{◌≡◌, ℕ, zero, suc, ◌+◌, ◌<◌, ◌≤◌, length, Bool, true, false, cond, is_some, List, [], ◌∷◌, ◌++◌, Option, Some, None, refl, sym, ap, ◌∙◌, subst, true≢false, arith, append_assoc, append-nil, length-append}
-use Rattle.arrayvec.specs.ArrayString.{ArrayString}
+use Rattle.std.proofs.Common.{◌≡◌, ℕ, ◌+◌, ◌<◌, length, Bool, true, false, is_some, List, [], ◌∷◌, ◌++◌, Option, Some, None, refl, sym, ap, ◌∙◌, subst, arith, append_assoc, length-append}
 use Rattle.c_token.specs.declared.signs.Sign.TheVariants as signs
 use Rattle.c_token.specs.declared.words.Word.{Word}
 use Rattle.c_token.specs.declared.words.Word.TheVariants as words
-use Rattle.c_grammar.specs.declared.stmt.Stmt.{Stmt}
 use Rattle.c_grammar.specs.declared.item.Item.{Item}
 use Rattle.c_grammar.specs.declared.item.Item.TheVariants as item
 use Rattle.c_grammar.specs.declared.item.Storage.{Storage}
@@ -21,12 +19,11 @@ use Rattle.c_grammar.specs.Statements.{IsType, Body}
 use Rattle.c_grammar.specs.Programs as gr
 use Rattle.c_grammar.specs.Programs.{IsStorage, IsLength, IsValue, AreValues, AreInitial, IsResult, IsParameter, AreListed, AreParameters, IsPrivate, IsItem, AreItems, IsProgram}
 use Rattle.c_reader.specs.declared.cursor.Named.{Named}
-use Rattle.c_reader.specs.declared.cursor.Numeral.{Numeral}
 use Rattle.c_reader.specs.declared.statement.Braces.{Braces}
 use Rattle.c_reader.specs.declared.item.Heading.{Heading}
 use Rattle.c_reader.specs.declared.item.Heading.TheVariants as heading
 use Rattle.c_reader.specs.declared.item.Given.{Given}
-use Rattle.c_reader.specs.Parser.{Outcome, done, stop, Parser, follow, ◌>>=◌, gives, refuses, first_kind, is_at_sign, is_at_word, sign, word, name, number, all, separated}
+use Rattle.c_reader.specs.Parser.{separated}
 use Rattle.c_reader.specs.Statements as st
 use Rattle.c_reader.specs.Programs as p
 use Rattle.c_reader.specs.Programs.{heading_of, heading_at, is_left, storage_of, result_of}

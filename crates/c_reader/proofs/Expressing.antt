@@ -1,5 +1,5 @@
 -- Expressions.
-use Rattle.std.proofs.Common.{◌≡◌, ℕ, zero, suc, ◌+◌, ◌<◌, ◌≤◌, length, Bool, true, false, cond, ltb, List, [], ◌∷◌, ◌++◌, Option, Some, None, refl, sym, ap, ◌∙◌, subst, true≢false, arith, append_assoc, append-nil}
+use Rattle.std.proofs.Common.{◌≡◌, ℕ, zero, suc, ◌+◌, ◌<◌, Bool, true, false, cond, List, [], ◌∷◌, ◌++◌, Option, Some, None, refl, sym, ap, ◌∙◌, subst, true≢false, arith}
 use Rattle.std.proofs.lemmas.Grind.{common_steps}
 use Rattle.c_token.specs.declared.signs.Sign.{Sign}
 use Rattle.c_token.specs.declared.signs.Sign.TheVariants as signs
@@ -10,21 +10,19 @@ use Rattle.c_grammar.specs.declared.expr.Expr.{Expr}
 use Rattle.c_grammar.specs.declared.expr.Expr.TheVariants as expr
 use Rattle.c_grammar.specs.Tokens as g
 use Rattle.c_grammar.specs.Tokens.{Tok, Spot, Bounded, tok_of, bounded, bounded_all}
-use Rattle.c_grammar.specs.Signs.{rank, is_unary_operator}
+use Rattle.c_grammar.specs.Signs.{is_unary_operator}
 use Rattle.c_grammar.specs.Expressions as gr
 use Rattle.c_grammar.specs.Expressions.{Expression, whole, Binary, Unary, primary, operation, Primary, literal, Arguments, Listed}
 use Rattle.c_reader.specs.declared.cursor.Named.{Named}
-use Rattle.c_reader.specs.declared.cursor.Numeral.{Numeral}
-use Rattle.c_reader.specs.declared.expression.Grown.{Grown}
 use Rattle.c_reader.specs.declared.expression.Bracketed.{Bracketed}
 use Rattle.c_reader.specs.declared.expression.Operand.{Operand}
 use Rattle.c_reader.specs.declared.expression.Operand.TheVariants as operand
-use Rattle.c_reader.specs.Parser.{Reason, expected, deep, exhausted, Outcome, done, stop, Parser, follow, ◌>>=◌, gives, refuses, first_kind, is_some_sign, is_at_sign, sign, word, name, number, separated}
+use Rattle.c_reader.specs.Parser.{done, Parser, first_kind, is_some_sign, is_at_sign, separated}
 use Rattle.c_reader.specs.Expressions as p
 use Rattle.c_reader.specs.Expressions.{is_unary, unary_of, operand_of, Inside, opened}
-use Rattle.c_reader.proofs.Holds.{Seq, seq, Mapped, mapped, Alike, Holds, reaches, stops, Always, Full, mono, bind, bind_known, mapping, mapped_at, same_parser, dispatch, head_kind, Nothing, nothing, giving, free, no_text, full_seq, full_mapped, full_sign, Takes, strict_of, OpensSign, opens_sign, above, above_at, above_ok, opening_sign, deep_first, IsSign, is_sign, signing, IsWord, is_word, wording, IsName, is_name, naming, IsNumber, is_number, numbering, Many, none_left, one_more, some_sign, refusing}
+use Rattle.c_reader.proofs.Holds.{Seq, seq, Mapped, mapped, Alike, Holds, Always, Full, mono, bind, mapping, mapped_at, dispatch, head_kind, Nothing, nothing, giving, free, full_seq, full_mapped, full_sign, OpensSign, opens_sign, above_at, above_ok, opening_sign, deep_first, IsSign, is_sign, signing, IsWord, is_word, wording, IsName, is_name, naming, IsNumber, is_number, numbering, Many, some_sign, refusing}
 use Rattle.c_reader.proofs.Lists.{head_sign, Comma, separating, separated_made}
-use Rattle.c_reader.proofs.Chains.{zero_token, zero_tree, zero_unary, zero_binary, zero_expression, Operand as Grows, binary_at}
+use Rattle.c_reader.proofs.Chains.{zero_token, zero_tree, zero_unary, zero_expression, Operand as Grows, binary_at}
 
 -- what reads unary expressions one level deeper
 abbrev pub Inner : ℕ → ℕ → Inside → Type 0

@@ -1,12 +1,12 @@
 -- Lists of parts, one after another.
-use Rattle.std.proofs.Common.{◌≡◌, ℕ, zero, suc, ◌<◌, ◌≤◌, length, Bool, true, false, cond, List, [], ◌∷◌, ◌++◌, Option, Some, None, refl, sym, ap, ◌∙◌, subst, true≢false, arith, append_assoc, append-nil}
+use Rattle.std.proofs.Common.{◌≡◌, ℕ, zero, suc, ◌<◌, length, Bool, true, false, cond, List, [], ◌∷◌, ◌++◌, refl, sym, ap, ◌∙◌, subst, arith, append-nil}
 use Rattle.c_token.specs.declared.signs.Sign.{Sign}
 use Rattle.c_token.specs.declared.signs.Sign.TheVariants as signs
 use Rattle.c_token.specs.declared.words.Word.{Word}
 use Rattle.c_grammar.specs.Tokens as g
 use Rattle.c_grammar.specs.Tokens.{Tok, Spot, Bounded, tok_of, bounded, bounded_all}
-use Rattle.c_reader.specs.Parser.{Reason, expected, deep, exhausted, Outcome, done, stop, Parser, follow, ◌>>=◌, gives, first_kind, is_some_sign, is_some_word, is_at_sign, is_at_word, sign, prepend, many, all, behind_comma, separated}
-use Rattle.c_reader.proofs.Holds.{Seq, seq, Mapped, mapped, Alike, Holds, reaches, stops, Always, Full, mono, bind, bind_known, mapping, mapped_at, same_parser, dispatch, head_kind, Nothing, nothing, giving, IsSign, is_sign, signing, full_sign, full_seq, Many, none_left, one_more, Takes, strict}
+use Rattle.c_reader.specs.Parser.{Outcome, done, stop, Parser, follow, ◌>>=◌, gives, is_some_sign, is_some_word, is_at_sign, is_at_word, prepend, many, all, behind_comma, separated}
+use Rattle.c_reader.proofs.Holds.{Seq, seq, Mapped, mapped, Alike, Holds, Always, Full, mono, bind, bind_known, mapping, mapped_at, same_parser, dispatch, head_kind, Nothing, nothing, giving, IsSign, is_sign, signing, Many, none_left, one_more, Takes, strict}
 
 pub head_sign : (x : Sign) (s t : List Tok) → Alike s t → is_at_sign x s ≡ is_at_sign x t
 unfolding is_at_sign

@@ -1,17 +1,15 @@
 -- The parser on worked lists of tokens.
-use Rattle.std.proofs.Common.{◌≡◌, ℕ, true, false, List, [], ◌∷◌, Some, None, refl}
+use Rattle.std.proofs.Common.{◌≡◌, ℕ, false, [], ◌∷◌, Some, None, refl}
 use Rattle.c_token.specs.declared.words.Word.TheVariants as w
 use Rattle.c_token.specs.declared.signs.Sign.TheVariants as s
 use Rattle.c_token.specs.declared.kinds.Kind.{Kind}
 use Rattle.c_token.specs.declared.kinds.Kind.TheVariants.{Number, Word, Sign}
 use Rattle.c_grammar.specs.declared.expr.Expr.TheVariants as e
 use Rattle.c_grammar.specs.declared.stmt.Stmt.TheVariants as t
-use Rattle.c_grammar.specs.declared.expr.Expr.{Expr}
-use Rattle.c_grammar.specs.declared.stmt.Stmt.{Stmt}
 use Rattle.c_reader.specs.Toks.{numbered}
-use Rattle.c_reader.specs.Parser.{expected, deep, done, stop, Outcome, sign, word, name, number, many, all, behind_comma, separated, is_at_sign, is_at_word}
-use Rattle.c_reader.specs.Expressions.{operator_at, joined, chain, chained, binary, expression, paren, subscript, listed, arguments, indexed, called, behind_name, named, literal, input, primary, signed, unary_in, inside, unary, expression_at}
-use Rattle.c_reader.specs.Statements.{start_at, int_type, optional_int, unsigned_type, type_name, expression_unless, optional_value, local_inside, local, assigned, condition, release, check, simple_inside, simple, ended, empty, returned, break_statement, continue_statement, while_loop, optional_else, conditional, first_part, step_part, head, for_loop, entry, goes_on, braced, block, statement_inside, barred, statement}
+use Rattle.c_reader.specs.Parser.{deep, done, stop, sign, word, number, is_at_sign, is_at_word}
+use Rattle.c_reader.specs.Expressions.{operator_at, joined, chain, chained, binary, expression, paren, literal, primary, unary_in, inside, unary, expression_at}
+use Rattle.c_reader.specs.Statements.{start_at, condition, empty, while_loop, optional_else, conditional, statement_inside, barred, statement}
 
 abbrev n : ℕ → Kind
 n x = Number x false

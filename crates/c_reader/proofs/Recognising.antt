@@ -1,5 +1,5 @@
 -- Every program of the grammar is read, or nests too deep.
-use Rattle.std.proofs.Common.{◌≡◌, ℕ, zero, suc, ◌+◌, ◌<◌, ◌≤◌, length, Bool, true, false, cond, is_some, List, [], ◌∷◌, ◌++◌, Option, Some, None, refl, sym, ap, ◌∙◌, subst, true≢false, arith, append_assoc, append-nil}
+use Rattle.std.proofs.Common.{◌≡◌, ℕ, zero, ◌+◌, ◌<◌, length, Bool, true, false, cond, List, [], ◌∷◌, ◌++◌, Option, Some, None, refl, sym, ap, ◌∙◌, subst, arith, append_assoc, append-nil}
 use Rattle.arrayvec.specs.ArrayString.{ArrayString}
 use Rattle.c_token.specs.declared.signs.Sign.TheVariants as signs
 use Rattle.c_token.specs.declared.words.Word.{Word}
@@ -22,14 +22,13 @@ use Rattle.c_grammar.specs.Programs as gr
 use Rattle.c_grammar.specs.Programs.{IsStorage, IsLength, IsValue, AreValues, AreInitial, IsResult, IsParameter, AreListed, AreParameters, IsPrivate, IsItem, AreItems, IsProgram}
 use Rattle.c_reader.specs.declared.cursor.Named.{Named}
 use Rattle.c_reader.specs.declared.item.Heading.TheVariants as heading
-use Rattle.c_reader.specs.declared.item.Given.{Given}
-use Rattle.c_reader.specs.Parser.{Outcome, done, stop, Parser, follow, ◌>>=◌, gives, first_kind, is_at_sign, is_at_word, sign, word, name, number, all, separated}
+use Rattle.c_reader.specs.Parser.{done, Parser, follow, ◌>>=◌, gives, first_kind, is_at_sign, is_at_word, sign, word, name, number, separated}
 use Rattle.c_reader.specs.Statements as st
 use Rattle.c_reader.specs.Programs as p
 use Rattle.c_reader.specs.Programs.{heading_of, heading_at, is_left, storage_of, result_of}
-use Rattle.c_reader.proofs.Holds.{Seq, seq, Mapped, mapped, Many, none_left, one_more, IsSign, is_sign}
+use Rattle.c_reader.proofs.Holds.{Seq, seq, Mapped, mapped, Many, none_left, one_more, is_sign}
 use Rattle.c_reader.proofs.Lists.{Comma}
-use Rattle.c_reader.proofs.Comes.{To, arrives, late, Goes, put-append, step, map_to, sign_goes, name_goes, number_goes, word_goes}
+use Rattle.c_reader.proofs.Comes.{To, arrives, Goes, step, map_to, sign_goes, name_goes, number_goes, word_goes}
 use Rattle.c_reader.proofs.ComesLists.{all_reads, separated_reads}
 use Rattle.c_reader.proofs.Bodies.{statement_at}
 use Rattle.c_reader.proofs.Declaring.{parameter_at, full_parameter, value_at, full_value, item_at, item_takes, head_left}

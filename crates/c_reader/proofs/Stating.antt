@@ -1,13 +1,9 @@
 -- Locals and simple statements.
-use Rattle.std.proofs.Common.{◌≡◌, ℕ, zero, suc, ◌+◌, ◌<◌, ◌≤◌, ◌⊎◌, inl, inr, length, Bool, true, false, cond, not, List, [], ◌∷◌, ◌++◌, Option, Some, None, refl, sym, ap, ◌∙◌, subst, true≢false, arith, append_assoc, append-nil}
-use Rattle.std.proofs.lemmas.Grind.{common_steps}
+use Rattle.std.proofs.Common.{◌≡◌, ℕ, suc, ◌+◌, ◌<◌, Bool, true, false, cond, List, [], ◌∷◌, ◌++◌, Option, Some, None, sym, ap, ◌∙◌, subst, arith, append_assoc}
 use Rattle.arrayvec.specs.ArrayString.{ArrayString}
-use Rattle.c_token.specs.declared.signs.Sign.{Sign}
 use Rattle.c_token.specs.declared.signs.Sign.TheVariants as signs
 use Rattle.c_token.specs.declared.words.Word.{Word}
 use Rattle.c_token.specs.declared.words.Word.TheVariants as words
-use Rattle.c_token.specs.declared.kinds.Kind.{Kind}
-use Rattle.c_token.specs.declared.kinds.Kind.TheVariants as kinds
 use Rattle.c_grammar.specs.declared.expr.Expr.{Expr}
 use Rattle.c_grammar.specs.declared.stmt.Stmt.{Stmt}
 use Rattle.c_grammar.specs.declared.stmt.Stmt.TheVariants as stmt
@@ -17,18 +13,15 @@ use Rattle.c_grammar.specs.Expressions.{Expression, Arguments}
 use Rattle.c_grammar.specs.Statements as gr
 use Rattle.c_grammar.specs.Statements.{IsType, Local, Simple, Maybe, Statement}
 use Rattle.c_reader.specs.declared.cursor.Named.{Named}
-use Rattle.c_reader.specs.declared.expression.Bracketed.{Bracketed}
-use Rattle.c_reader.specs.declared.statement.Start.{Start}
-use Rattle.c_reader.specs.declared.statement.Start.TheVariants as start
 use Rattle.c_reader.specs.declared.statement.Plain.{Plain}
 use Rattle.c_reader.specs.declared.statement.Plain.TheVariants as plain
-use Rattle.c_reader.specs.Parser.{Reason, expected, deep, exhausted, Outcome, done, stop, Parser, follow, ◌>>=◌, gives, refuses, first_kind, is_some_word, is_at_sign, is_at_word, passed, sign, word, name, level}
-use Rattle.c_reader.specs.Expressions.{subscript, arguments, inside}
+use Rattle.c_reader.specs.Parser.{Parser, ◌>>=◌, gives, is_some_word, is_at_sign, is_at_word, word}
+use Rattle.c_reader.specs.Expressions.{inside}
 use Rattle.c_reader.specs.Statements as p
 use Rattle.c_reader.specs.Statements.{start_of, start_at, plain_of, plain_at}
-use Rattle.c_reader.proofs.Holds.{Seq, seq, Mapped, mapped, Alike, Holds, reaches, stops, Always, Full, mono, bind, bind_known, bind_at, mapping, mapped_at, same_parser, dispatch, head_kind, Nothing, nothing, giving, free, no_text, full_seq, full_mapped, full_sign, full_name, Takes, strict_of, OpensSign, opens_sign, OpensWord, opens_word, OpensName, opens_name, above, above_at, above_ok, opening_sign, opening_word, opening_name, deep_first, IsSign, is_sign, signing, IsWord, is_word, wording, IsName, is_name, naming, some_word, passed_at, refusing}
+use Rattle.c_reader.proofs.Holds.{Seq, seq, Mapped, mapped, Alike, Holds, Always, Full, mono, bind, bind_at, mapping, mapped_at, dispatch, head_kind, Nothing, nothing, giving, free, full_seq, full_mapped, full_sign, full_name, OpensSign, opens_sign, OpensWord, opens_word, OpensName, opens_name, above, above_ok, opening_sign, opening_word, opening_name, IsSign, is_sign, signing, IsWord, is_word, wording, IsName, is_name, naming, some_word, passed_at, refusing}
 use Rattle.c_reader.proofs.Lists.{head_sign, head_word}
-use Rattle.c_reader.proofs.Chains.{zero_token, zero_tree, zero_expression}
+use Rattle.c_reader.proofs.Chains.{zero_expression}
 use Rattle.c_reader.proofs.Expressing.{Inner, inside_at, at_sign, if_sign, Subscripted, subscript_at, arguments_at, expression_at}
 
 -- a test of the first token's word

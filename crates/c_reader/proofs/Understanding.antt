@@ -3,7 +3,6 @@ use Rattle.std.proofs.Common.{◌≡◌, ℕ, zero, suc, ◌+◌, ◌<◌, ◌�
 use Rattle.arrayvec.specs.ArrayString.{ArrayString}
 use Rattle.c_token.specs.declared.signs.Sign.{Sign}
 use Rattle.c_token.specs.declared.signs.Sign.TheVariants as signs
-use Rattle.c_token.specs.declared.words.Word.{Word}
 use Rattle.c_token.specs.declared.words.Word.TheVariants as words
 use Rattle.c_token.specs.declared.kinds.Kind.{Kind}
 use Rattle.c_token.specs.declared.kinds.Kind.TheVariants as kinds
@@ -16,13 +15,11 @@ use Rattle.c_grammar.specs.Expressions.{Expression, Arguments}
 use Rattle.c_grammar.specs.Expressions as ag
 use Rattle.c_grammar.specs.Statements as gr
 use Rattle.c_grammar.specs.Statements.{IsType, Local, Simple, Maybe, First, Step, Statement, Body}
-use Rattle.c_reader.specs.declared.cursor.Named.{Named}
 use Rattle.c_reader.specs.declared.statement.Start.{Start}
 use Rattle.c_reader.specs.declared.statement.Start.TheVariants as start
 use Rattle.c_reader.specs.declared.statement.Plain.{Plain}
 use Rattle.c_reader.specs.declared.statement.Plain.TheVariants as plain
-use Rattle.c_reader.specs.declared.statement.LoopHead.{LoopHead}
-use Rattle.c_reader.specs.Parser.{Reason, expected, deep, exhausted, Outcome, done, stop, Parser, follow, ◌>>=◌, gives, refuses, first_kind, is_some_sign, is_some_word, is_at_sign, is_at_word, sign, word, name, level}
+use Rattle.c_reader.specs.Parser.{expected, deep, Outcome, done, stop, Parser, follow, ◌>>=◌, gives, first_kind, is_some_sign, is_some_word, is_at_sign, is_at_word, sign, word, name, level}
 use Rattle.c_reader.specs.Expressions.{inside, subscript, arguments}
 use Rattle.c_reader.specs.Expressions as ex
 use Rattle.c_reader.specs.Statements as p
@@ -31,9 +28,9 @@ use Rattle.c_reader.proofs.Holds.{Always, Many, none_left, one_more}
 use Rattle.c_reader.proofs.ComesLists.{all_reads}
 use Rattle.c_reader.proofs.Bodies.{St, Entry, local_entry, statement_entry, entry_takes, entry_at, statement_at}
 use Rattle.c_reader.proofs.Bodies as go
-use Rattle.c_reader.proofs.Comes.{To, arrives, late, Goes, linked, followed, put-append, shift, onward, step, map_to, sign_goes, name_goes, number_goes, word_goes}
+use Rattle.c_reader.proofs.Comes.{To, arrives, late, Goes, put-append, step, map_to, sign_goes, name_goes, word_goes}
 use Rattle.c_reader.proofs.Expressing.{inside_at}
-use Rattle.c_reader.proofs.Comprehending.{Ends, ends_right, ends_bracket, ends_comma, ends_semicolon, whole_reads, subscript_reads, arguments_reads, inside_reads, expression_no_right, expression_no_semicolon}
+use Rattle.c_reader.proofs.Comprehending.{Ends, ends_right, ends_semicolon, whole_reads, subscript_reads, arguments_reads, inside_reads, expression_no_semicolon}
 
 is_named : Plain → Bool
 is_named plain.Named = true

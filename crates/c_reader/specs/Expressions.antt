@@ -1,5 +1,5 @@
 -- How expressions are read. `limit` is how many operators of two operands one expression may have.
-use Rattle.std.specs.Prelude.{◌≡◌, Result, Ok, Err, ℕ, zero, suc, ◌+◌, ◌==◌, Bool, true, false, List, [], ◌∷◌, ◌++◌, length, Option, Some, None, nat_lt, if◌then◌else◌}
+use Rattle.std.specs.Prelude.{◌≡◌, Result, Ok, Err, ℕ, zero, suc, ◌+◌, ◌==◌, Bool, true, false, List, [], length, Option, Some, None, nat_lt, if◌then◌else◌}
 use Rattle.c_token.specs.declared.words.Word.TheVariants as words
 use Rattle.c_token.specs.declared.signs.Sign.{Sign}
 use Rattle.c_token.specs.declared.signs.Sign.TheVariants as signs
@@ -8,7 +8,6 @@ use Rattle.c_token.specs.declared.kinds.Kind.TheVariants as kinds
 use Rattle.c_grammar.specs.declared.expr.Expr.{Expr}
 use Rattle.c_grammar.specs.declared.expr.Expr.TheVariants as expr
 use Rattle.c_reader.specs.declared.cursor.Named.{Named}
-use Rattle.c_reader.specs.declared.cursor.Numeral.{Numeral}
 use Rattle.c_reader.specs.declared.fault.Fault.{Fault}
 use Rattle.c_reader.specs.declared.fault.Fault.TheVariants.{Deep}
 use Rattle.c_reader.specs.declared.expression.Grown.{Grown}
@@ -16,7 +15,7 @@ use Rattle.c_reader.specs.declared.expression.Bracketed.{Bracketed}
 use Rattle.c_reader.specs.declared.expression.Operand.{Operand}
 use Rattle.c_reader.specs.declared.expression.Operand.TheVariants as operand
 use Rattle.c_reader.specs.Toks.{Tok}
-use Rattle.c_reader.specs.Parser.{expected, deep, exhausted, Outcome, done, stop, Parser, follow, ◌>>=◌, gives, refuses, first_kind, is_at_sign, sign, word, name, number, separated}
+use Rattle.c_reader.specs.Parser.{deep, exhausted, Outcome, done, stop, Parser, follow, ◌>>=◌, gives, refuses, first_kind, is_at_sign, sign, word, name, number, separated}
 
 -- which of the ten ranks an operator of two operands has, from 1 for those that bind tightest; 0 for every other sign
 abbrev pub rank_of : Sign → ℕ

@@ -6,7 +6,6 @@ use Rattle.c_token.specs.declared.words.Word.TheVariants as words
 use Rattle.c_token.specs.declared.signs.Sign.TheVariants as signs
 use Rattle.c_token.specs.declared.kinds.Kind.{Kind}
 use Rattle.c_token.specs.declared.kinds.Kind.TheVariants as kinds
-use Rattle.c_grammar.specs.declared.stmt.Stmt.{Stmt}
 use Rattle.c_grammar.specs.declared.item.Item.{Item}
 use Rattle.c_grammar.specs.declared.item.Item.TheVariants as item
 use Rattle.c_grammar.specs.declared.item.Storage.{Storage}
@@ -21,7 +20,7 @@ use Rattle.c_reader.specs.declared.item.Heading.{Heading}
 use Rattle.c_reader.specs.declared.item.Heading.TheVariants as heading
 use Rattle.c_reader.specs.declared.item.Given.{Given}
 use Rattle.c_reader.specs.Toks.{Tok}
-use Rattle.c_reader.specs.Parser.{Outcome, done, stop, Parser, follow, ◌>>=◌, gives, refuses, first_kind, is_at_sign, is_at_word, sign, word, name, number, all, separated}
+use Rattle.c_reader.specs.Parser.{done, Parser, ◌>>=◌, gives, refuses, first_kind, is_at_sign, is_at_word, sign, word, name, number, all, separated}
 use Rattle.c_reader.specs.Statements.{type_name, braced, statement}
 
 -- what a token begins at the top of a program

@@ -1,6 +1,6 @@
 -- How locals and statements are read. `limit` is how many operators of two operands one expression may have,
 -- and `levels` how many levels are left.
-use Rattle.std.specs.Prelude.{ℕ, zero, suc, Bool, true, false, not, List, [], ◌∷◌, Option, Some, None, if◌then◌else◌}
+use Rattle.std.specs.Prelude.{ℕ, zero, suc, Bool, true, false, not, List, Option, Some, None, if◌then◌else◌}
 use Rattle.c_token.specs.declared.words.Word.TheVariants as words
 use Rattle.c_token.specs.declared.signs.Sign.TheVariants as signs
 use Rattle.c_token.specs.declared.kinds.Kind.{Kind}
@@ -16,7 +16,7 @@ use Rattle.c_reader.specs.declared.statement.Plain.TheVariants as plain
 use Rattle.c_reader.specs.declared.statement.LoopHead.{LoopHead}
 use Rattle.c_reader.specs.declared.statement.Braces.{Braces}
 use Rattle.c_reader.specs.Toks.{Tok}
-use Rattle.c_reader.specs.Parser.{expected, deep, Outcome, done, stop, Parser, follow, ◌>>=◌, gives, refuses, first_kind, is_at_sign, is_at_word, sign, word, name, all, level}
+use Rattle.c_reader.specs.Parser.{expected, deep, done, stop, Parser, follow, ◌>>=◌, gives, refuses, first_kind, is_at_sign, is_at_word, sign, word, name, all, level}
 use Rattle.c_reader.specs.Expressions.{expression_at, subscript, arguments, inside}
 
 -- what a token begins in a block

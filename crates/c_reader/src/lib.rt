@@ -13,6 +13,7 @@ mod statement;
 #[cfg(test)]
 mod tests;
 
+pub use c_printer::print_program;
 pub use error::SyntaxError;
 pub use laws::one_program;
 pub use reading::read_program;

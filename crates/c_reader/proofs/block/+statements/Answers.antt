@@ -1,5 +1,5 @@
 -- The loop over the locals and statements of a block.
-use Rattle.std.proofs.Common.{◌≡◌, ◌<◌, ◌≤◌, arith, length, sym, ◌∙◌}
+use Rattle.std.proofs.Common.{arith, sym, ◌∙◌}
 use Rattle.std.proofs.lemmas.Result.{err_from_is_err_and}
 use Rattle.c_reader.specs.Statements.{entries}
 use Rattle.c_reader.proofs.Loops.{all-grows, grows-step, grows-end, grows-fault}

@@ -1,5 +1,5 @@
 -- The levels that are left bound the depth: within one level each function calls those of lower numbers.
-use Rattle.std.proofs.Common.{◌≡◌, ◌≤◌, ◌+◌, ◌*◌, ◌<◌, length}
+use Rattle.std.proofs.Common.{◌≤◌, ◌+◌, ◌*◌, length}
 use Rattle.aegis_num.specs.declared.limits.TheConstants.{MAX_BINARY_OPERATORS}
 use Rattle.c_reader.specs.Statements.{goes_on, entry, entries, statement}
 use Rattle.c_reader.proofs.Loops.{Grows}

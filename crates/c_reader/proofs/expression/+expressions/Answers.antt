@@ -1,5 +1,5 @@
 -- The loops over operators and over arguments.
-use Rattle.std.proofs.Common.{◌≡◌, ◌<◌, ◌≤◌, arith, length, sym, ◌∙◌}
+use Rattle.std.proofs.Common.{arith, sym, ◌∙◌}
 use Rattle.std.proofs.lemmas.Result.{err_from_is_err_and}
 use Rattle.c_reader.proofs.Loops.{chains-step, chains-end, chains-fault, separated-grows, grows-step, grows-end, grows-fault}
 use Rattle.c_reader.proofs.expression.+expressions.Goals as goal

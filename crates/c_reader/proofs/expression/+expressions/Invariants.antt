@@ -1,5 +1,5 @@
 -- The levels that are left bound the depth: within one level each function calls those of lower numbers.
-use Rattle.std.proofs.Common.{◌≡◌, ◌≤◌, ◌+◌, ◌*◌, ◌<◌, length}
+use Rattle.std.proofs.Common.{◌≤◌, ◌+◌, ◌*◌, ◌<◌, length}
 use Rattle.aegis_num.specs.declared.limits.TheConstants.{MAX_BINARY_OPERATORS}
 use Rattle.c_token.specs.declared.signs.Sign.TheVariants.{Comma}
 use Rattle.c_reader.specs.Parser.{is_at_sign, separated, behind_comma}

@@ -1,5 +1,5 @@
 -- The loop over the list.
-use Rattle.std.proofs.Common.{◌≡◌, ◌<◌, ◌≤◌, arith, length, sym, ◌∙◌}
+use Rattle.std.proofs.Common.{arith, sym, ◌∙◌}
 use Rattle.std.proofs.lemmas.Result.{err_from_is_err_and}
 use Rattle.c_reader.specs.Programs.{items}
 use Rattle.c_reader.proofs.Loops.{none_left, all-grows, grows-step, grows-end, grows-fault}

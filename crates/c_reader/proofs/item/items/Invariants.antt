@@ -1,5 +1,5 @@
 -- the list so far, and no more left than there was
-use Rattle.std.proofs.Common.{◌≡◌, ◌≤◌, ◌<◌, length}
+use Rattle.std.proofs.Common.{◌≤◌, length}
 use Rattle.aegis_num.specs.declared.limits.TheConstants.{MAX_BINARY_OPERATORS, MAX_NESTING}
 use Rattle.c_reader.specs.Programs.{is_left, item_inside, items}
 use Rattle.c_reader.proofs.Loops.{Grows}

@@ -1,5 +1,5 @@
 -- the list so far, and no more left than there was
-use Rattle.std.proofs.Common.{◌≡◌, ◌≤◌, ◌<◌, length}
+use Rattle.std.proofs.Common.{◌<◌, length}
 use Rattle.c_token.specs.declared.signs.Sign.TheVariants.{Comma}
 use Rattle.c_reader.specs.Parser.{is_at_sign, separated, behind_comma}
 use Rattle.c_reader.specs.Programs.{value}

@@ -1,5 +1,5 @@
 -- The answer of the parser on lists is that of the grammar.
-use Rattle.std.proofs.Common.{◌≡◌, ℕ, List, length, sym, subst}
+use Rattle.std.proofs.Common.{List, length, sym, subst}
 use Rattle.std.proofs.lemmas.List.{length-map}
 use Rattle.std.specs.Prelude.{Result, IfOk, IfErr}
 use Rattle.c_token.specs.declared.kinds.Token.{Token}
