@@ -1,18 +1,14 @@
 -- Worked derivations of the grammar, step by step.
-use Rattle.std.proofs.Common.{◌≡◌, ℕ, suc, true, false, List, [], ◌∷◌, ◌++◌, None, Some, refl, arith}
+use Rattle.std.proofs.Common.{ℕ, suc, true, false, [], ◌∷◌, None, Some, refl, arith}
 use Rattle.arrayvec.specs.ArrayString.{ArrayString}
-use Rattle.c_token.specs.declared.kinds.Kind.{Kind}
 use Rattle.c_token.specs.declared.kinds.Kind.TheVariants.{Name, Number, Word, Sign}
 use Rattle.c_token.specs.declared.words.Word.TheVariants as words
 use Rattle.c_token.specs.declared.signs.Sign.TheVariants as signs
-use Rattle.c_grammar.specs.declared.expr.Expr.{Expr}
 use Rattle.c_grammar.specs.declared.expr.Expr.TheVariants as expr
-use Rattle.c_grammar.specs.declared.stmt.Stmt.{Stmt}
 use Rattle.c_grammar.specs.declared.stmt.Stmt.TheVariants as stmt
 use Rattle.c_grammar.specs.declared.item.Item.TheVariants as item
 use Rattle.c_grammar.specs.declared.item.Kind3.TheVariants as kind3
-use Rattle.c_grammar.specs.declared.item.Program.{Program}
-use Rattle.c_grammar.specs.Tokens.{Spot, Bounded, numbered, bounded_all}
+use Rattle.c_grammar.specs.Tokens.{Spot, numbered, bounded_all}
 use Rattle.c_grammar.specs.Expressions as e
 use Rattle.c_grammar.specs.Expressions.{Expression, Binary, Unary}
 use Rattle.c_grammar.specs.Statements as s

@@ -37,9 +37,9 @@ self_call_sites = simp (expr_forms, stmt_forms)
 self_call_violates : Violates (record { items = self_call ∷ [] }) 7 Recursive
 self_call_violates =
     by_site [] self_call (site.Global 0 false 1 ∷ site.Return Int true 6 ∷ [])
-      (site.Use (CallValue 0) (Some (declaration_of self_call).binding) (record { private = false; result = Int; token = 1 }) 7)
-      (record { behind = []; all = refl }) (record { back = []; all = self_call_sites }) refl
-      (calls_itself (CallValue 0) (declaration_of self_call).binding (record { private = false; result = Int; token = 1 }) 7 refl refl)
+    (site.Use (CallValue 0) (Some (declaration_of self_call).binding) (record { private = false; result = Int; token = 1 }) 7)
+    (record { behind = []; all = refl }) (record { back = []; all = self_call_sites }) refl
+    (calls_itself (CallValue 0) (declaration_of self_call).binding (record { private = false; result = Int; token = 1 }) 7 refl refl)
 
 -- An empty program breaks no rule, and has no `main`.
 empty_keeps : KeepsRules (record { items = [] })
@@ -80,33 +80,33 @@ scopes_sites = simp (expr_forms, stmt_forms)
 own_value_violates : Violates (record { items = scopes ∷ [] }) 10 Unknown
 own_value_violates =
     by_site [] scopes (site.Global 0 false 1 ∷ site.Parameter 0 false 4 ∷ site.Local false 8 ∷ [])
-      (site.Use Value None (record { private = false; result = Int; token = 1 }) 10)
-      (record { behind = []; all = refl })
-      (record {
-        back = site.Local false 14
-            ∷ site.Use Assign (Some (bound 14)) (record { private = false; result = Int; token = 1 }) 16
-            ∷ site.Use Value (Some (bound 8)) (record { private = false; result = Int; token = 1 }) 18
-            ∷ site.Local false 24
-            ∷ site.Use Value (Some (bound 4)) (record { private = false; result = Int; token = 1 }) 26
-            ∷ site.Jump true 30
-            ∷ site.Local true 33
-            ∷ [];
-        all = scopes_sites;
-      })
-      refl (unknown Value (record { private = false; result = Int; token = 1 }) 10)
+    (site.Use Value None (record { private = false; result = Int; token = 1 }) 10)
+    (record { behind = []; all = refl })
+    (record {
+      back = site.Local false 14
+          ∷ site.Use Assign (Some (bound 14)) (record { private = false; result = Int; token = 1 }) 16
+          ∷ site.Use Value (Some (bound 8)) (record { private = false; result = Int; token = 1 }) 18
+          ∷ site.Local false 24
+          ∷ site.Use Value (Some (bound 4)) (record { private = false; result = Int; token = 1 }) 26
+          ∷ site.Jump true 30
+          ∷ site.Local true 33
+          ∷ [];
+      all = scopes_sites;
+    })
+    refl (unknown Value (record { private = false; result = Int; token = 1 }) 10)
 
 again_violates : Violates (record { items = scopes ∷ [] }) 33 Twice
 again_violates =
     by_site [] scopes
-      (site.Global 0 false 1
-      ∷ site.Parameter 0 false 4
-      ∷ site.Local false 8
-      ∷ site.Use Value None (record { private = false; result = Int; token = 1 }) 10
-      ∷ site.Local false 14
-      ∷ site.Use Assign (Some (bound 14)) (record { private = false; result = Int; token = 1 }) 16
-      ∷ site.Use Value (Some (bound 8)) (record { private = false; result = Int; token = 1 }) 18
-      ∷ site.Local false 24
-      ∷ site.Use Value (Some (bound 4)) (record { private = false; result = Int; token = 1 }) 26
-      ∷ site.Jump true 30
-      ∷ [])
-      (site.Local true 33) (record { behind = []; all = refl }) (record { back = []; all = scopes_sites }) refl (twice_local 33)
+    (site.Global 0 false 1
+    ∷ site.Parameter 0 false 4
+    ∷ site.Local false 8
+    ∷ site.Use Value None (record { private = false; result = Int; token = 1 }) 10
+    ∷ site.Local false 14
+    ∷ site.Use Assign (Some (bound 14)) (record { private = false; result = Int; token = 1 }) 16
+    ∷ site.Use Value (Some (bound 8)) (record { private = false; result = Int; token = 1 }) 18
+    ∷ site.Local false 24
+    ∷ site.Use Value (Some (bound 4)) (record { private = false; result = Int; token = 1 }) 26
+    ∷ site.Jump true 30
+    ∷ [])
+    (site.Local true 33) (record { behind = []; all = refl }) (record { back = []; all = scopes_sites }) refl (twice_local 33)

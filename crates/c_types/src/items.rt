@@ -121,7 +121,8 @@ fn parameters(
     verdict: &mut Verdict,
 ) -> Result<(), OutOfMemory>
     ensures declared { OnOk result (names.new ≡ names.old ++ parameters_of all.now) }
-    ensures sites { OnOk result (verdict.new ≡ noted verdict.old (parameter_sites 0 all.now (placed names.old context))) }
+    ensures sites { OnOk result (verdict.new ≡ noted verdict.old
+        (parameter_sites 0 all.now (placed names.old context))) }
 {
     for (number, p) in all.iter().enumerate() {
         let again = names.is_declared_from(context.start, &p.name);
@@ -144,8 +145,10 @@ fn function(
     body: &[Stmt],
     verdict: &mut Verdict,
 ) -> Result<(), OutOfMemory>
-    ensures declared { OnOk result (names.new ≡ names.old ++ parameters_of params.now ++ declared_in body.now) }
-    ensures sites { OnOk result (verdict.new ≡ noted verdict.old (function_sites params.now body.now (placed names.old context))) }
+    ensures declared { OnOk result (names.new ≡ names.old
+        ++ parameters_of params.now ++ declared_in body.now) }
+    ensures sites { OnOk result (verdict.new ≡ noted verdict.old
+        (function_sites params.now body.now (placed names.old context))) }
 {
     parameters(names, context, params, verdict)?;
     statements(names, context, body, verdict)?;
@@ -217,7 +220,8 @@ fn global(
 ) -> Result<(), OutOfMemory>
     requires { HasRoom item.now }
     ensures declared { OnOk result (names.new ≡ names.old ++ declaration_of item.now ∷ []) }
-    ensures sites { OnOk result (verdict.new ≡ noted (afresh verdict.old) (global_sites number names.old item.now)) }
+    ensures sites { OnOk result (verdict.new ≡ noted (afresh verdict.old)
+        (global_sites number names.old item.now)) }
 {
     verdict.begin();
     let again = names.is_declared_from(0, name_of(item));

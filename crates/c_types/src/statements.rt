@@ -66,7 +66,8 @@ fn assignment(
     token: u32,
     verdict: &mut Verdict,
 )
-    ensures { verdict.new ≡ noted verdict.old (use_of (assign index.now) names.now home name.now token ∷
+    ensures { verdict.new ≡ noted verdict.old
+        (use_of (assign index.now) names.now home name.now token ∷
         (part_sites index.now names.now home ++ expr_sites value.now names.now home)) }
 {
     used(names, home, assigned(index), name, token, verdict);
@@ -83,7 +84,8 @@ fn declaration(
     token: u32,
     verdict: &mut Verdict,
 )
-    ensures { verdict.new ≡ noted verdict.old (site.Local (is_again (placed names.now context).scope name.now) token
+    ensures { verdict.new ≡ noted verdict.old
+        (site.Local (is_again (placed names.now context).scope name.now) token
         ∷ part_sites value.now names.now context.home) }
 {
     let again = names.is_declared_from(context.start, name);
@@ -100,7 +102,8 @@ fn call(
     token: u32,
     verdict: &mut Verdict,
 )
-    ensures { verdict.new ≡ noted verdict.old (use_of (How.Call (length arguments.now)) names.now home name.now token
+    ensures { verdict.new ≡ noted verdict.old
+        (use_of (How.Call (length arguments.now)) names.now home name.now token
         ∷ list_sites arguments.now names.now home) }
 {
     let how = How::Call {
@@ -140,7 +143,8 @@ fn statement(
     verdict: &mut Verdict,
 ) -> Result<(), OutOfMemory>
     ensures declared { OnOk result (names.new ≡ names.old ++ (stmt_sites s.now).declared) }
-    ensures sites { OnOk result (verdict.new ≡ noted verdict.old ((stmt_sites s.now).sites (placed names.old context))) }
+    ensures sites { OnOk result (verdict.new ≡ noted verdict.old
+        ((stmt_sites s.now).sites (placed names.old context))) }
 {
     let home = context.home;
     match s {
@@ -240,7 +244,8 @@ fn repeated(
     verdict: &mut Verdict,
 ) -> Result<(), OutOfMemory>
     ensures declared { OnOk result (names.new ≡ names.old) }
-    ensures sites { OnOk result (verdict.new ≡ noted verdict.old ((stmt_sites body.now).sites (looped (placed names.old context)))) }
+    ensures sites { OnOk result (verdict.new ≡ noted verdict.old
+        ((stmt_sites body.now).sites (looped (placed names.old context)))) }
 {
     let looped = Context {
         in_loop: true,
@@ -259,7 +264,8 @@ pub fn statements(
     verdict: &mut Verdict,
 ) -> Result<(), OutOfMemory>
     ensures declared { OnOk result (names.new ≡ names.old ++ declared_in all.now) }
-    ensures sites { OnOk result (verdict.new ≡ noted verdict.old (body_sites all.now (placed names.old context))) }
+    ensures sites { OnOk result (verdict.new ≡ noted verdict.old
+        (body_sites all.now (placed names.old context))) }
 {
     for s in all {
         statement(names, context, s, verdict)?;
@@ -276,7 +282,8 @@ fn inside(
     verdict: &mut Verdict,
 ) -> Result<(), OutOfMemory>
     ensures declared { OnOk result (names.new ≡ names.old) }
-    ensures sites { OnOk result (verdict.new ≡ noted verdict.old ((stmt_sites s.now).sites (inside_of (placed names.old context)))) }
+    ensures sites { OnOk result (verdict.new ≡ noted verdict.old
+        ((stmt_sites s.now).sites (inside_of (placed names.old context)))) }
 {
     let start = names.len();
     statement(names, Context { start, ..context }, s, verdict)?;
@@ -293,7 +300,8 @@ fn branch_inside(
     verdict: &mut Verdict,
 ) -> Result<(), OutOfMemory>
     ensures declared { OnOk result (names.new ≡ names.old) }
-    ensures sites { OnOk result (verdict.new ≡ noted verdict.old ((branch_sites s.now).sites (inside_of (placed names.old context)))) }
+    ensures sites { OnOk result (verdict.new ≡ noted verdict.old
+        ((branch_sites s.now).sites (inside_of (placed names.old context)))) }
 {
     match s {
         None => Ok(()),
@@ -313,7 +321,8 @@ fn branch(
     verdict: &mut Verdict,
 ) -> Result<(), OutOfMemory>
     ensures declared { OnOk result (names.new ≡ names.old ++ (branch_sites s.now).declared) }
-    ensures sites { OnOk result (verdict.new ≡ noted verdict.old ((branch_sites s.now).sites (placed names.old context))) }
+    ensures sites { OnOk result (verdict.new ≡ noted verdict.old
+        ((branch_sites s.now).sites (placed names.old context))) }
 {
     match s {
         None => Ok(()),
