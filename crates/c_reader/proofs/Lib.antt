@@ -13,3 +13,4 @@ mod Understanding
 pub mod Loops
 mod Recognising
 pub mod Answered
+mod WorkedPlaces
