@@ -22,8 +22,10 @@ pub fn mean_resolved(
     turns: u64,
     out: &mut Vec<u8>,
 ) -> Result<MeanEnd, OutOfMemory>
-    ensures bytes { OnOk result (out.new.items ≡ out.old.items ++ (mean_alone (program_of program.now) input.now turns).traffic.bytes) }
-    ensures end { IfOk result (λ end. end_of end ≡ (mean_alone (program_of program.now) input.now turns).end) }
+    ensures bytes { OnOk result (out.new.items ≡ out.old.items
+        ++ (mean_alone (program_of program.now) input.now turns).traffic.bytes) }
+    ensures end { IfOk result (λ end.
+        end_of end ≡ (mean_alone (program_of program.now) input.now turns).end) }
     ensures err { OnErr result (out.new.items ≡ out.old.items) }
 {
     let mut machine = Machine::new(alloc, program.objects.as_slice(), input, turns)?;

@@ -8,7 +8,7 @@ mod declaration;
 mod error;
 mod expressions;
 mod items;
-mod names;
+pub mod names;
 mod site;
 mod statements;
 mod verdict;
