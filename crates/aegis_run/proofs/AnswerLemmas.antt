@@ -1,9 +1,7 @@
 -- What answers say of sinks and of files.
-use Rattle.std.proofs.Common.{◌≡◌, ◌≢◌, ◌⊎◌, inl, inr, ℕ, List, [], length, unwrap_or, Option, None, Some, refl, sym, ◌∙◌, ap, subst, arith}
+use Rattle.std.proofs.Common.{◌≡◌, ◌≢◌, inl, inr, ℕ, List, [], length, unwrap_or, Option, None, Some, refl, sym, ◌∙◌, ap, subst, arith}
 use Rattle.aegis_edge.specs.Folder.{Files, content_of}
 use Rattle.c_reader.specs.Refusals.{OneProgram}
-use Rattle.c_reader.specs.declared.error.SyntaxError.{SyntaxError}
-use Rattle.c_token.specs.declared.kinds.TokenError.{TokenError}
 use Rattle.aegis_run.specs.declared.ends.File.{File}
 use Rattle.aegis_run.specs.declared.ends.File.TheVariants.{Source, Script, Input}
 use Rattle.aegis_run.specs.declared.ends.End.{End}

@@ -1,5 +1,5 @@
 -- Each release of a program takes at least five of its tokens.
-use Rattle.std.proofs.Common.{◌≡◌, ◌≤◌, ◌*◌, ◌+◌, ℕ, zero, suc, Bool, true, false, List, [], ◌∷◌, ◌++◌, length, Option, None, Some, refl, sym, ◌∙◌, ap, subst, arith, length-append}
+use Rattle.std.proofs.Common.{◌≡◌, ◌≤◌, ◌*◌, ◌+◌, ℕ, suc, Bool, true, false, List, [], ◌∷◌, ◌++◌, length, Option, None, Some, refl, ◌∙◌, ap, arith, length-append}
 use Rattle.std.specs.Prelude.{if◌then◌else◌}
 use Rattle.std.proofs.lemmas.List.{length-map}
 use Rattle.c_token.specs.declared.kinds.Kind.{Kind}
@@ -17,7 +17,7 @@ use Rattle.c_grammar.specs.Statements as s
 use Rattle.c_grammar.specs.Programs.{IsItem, AreItems}
 use Rattle.c_grammar.specs.Programs as p
 use Rattle.c_grammar.specs.Places.{limit, Reads}
-use Rattle.aegis_run.specs.Literals.{released_by, returns_literal, in_front, body_literals, is_main, item_literals, items_literals, literals_of}
+use Rattle.aegis_run.specs.Literals.{released_by, returns_literal, in_front, body_literals, item_literals, items_literals, literals_of}
 
 -- ---- lengths of lists that are put together
 

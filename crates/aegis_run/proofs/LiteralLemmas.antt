@@ -1,7 +1,6 @@
 -- Statements that release literals, one more at a time.
-use Rattle.std.proofs.Common.{◌≡◌, ℕ, true, false, List, [], ◌∷◌, ◌++◌, Option, None, Some, refl, sym, ap, append_assoc, append-nil}
-use Rattle.c_grammar.specs.declared.stmt.Stmt.{Stmt}
-use Rattle.aegis_run.specs.Literals.{in_front, released_by, body_literals}
+use Rattle.std.proofs.Common.{◌≡◌, ℕ, List, [], ◌∷◌, ◌++◌, Option, None, Some, refl, sym, ap, append_assoc}
+use Rattle.aegis_run.specs.Literals.{in_front}
 
 -- numbers before others, if these are there
 abbrev pub prefixed : List ℕ → Option (List ℕ) → Option (List ℕ)

@@ -1,21 +1,20 @@
 -- A text has one answer: it is run, or it is not, in one way.
-use Rattle.std.proofs.Common.{◌≡◌, ◌≢◌, ◌≤◌, ◌*◌, ◌+◌, ℕ, suc, true, List, [], ◌∷◌, ◌++◌, length, map, Option, None, Some, Ok, Err, refl, sym, ◌∙◌, ap, subst, arith, length-append}
-use Rattle.std.specs.Str.{bytes_eq}
-use Rattle.std.specs.Prelude.{codes, is_some, if◌then◌else◌}
+use Rattle.std.proofs.Common.{◌≡◌, ◌≢◌, ℕ, List, [], ◌∷◌, length, map, Option, None, Some, Ok, Err, refl, sym, ◌∙◌, ap, subst}
+use Rattle.std.specs.Prelude.{is_some, if◌then◌else◌}
 use Rattle.c_grammar.specs.declared.item.Parameter.{Parameter}
 use Rattle.c_grammar.specs.declared.stmt.Stmt.TheVariants as stmt
 use Rattle.c_token.specs.declared.kinds.Kind.{Kind}
 use Rattle.c_token.specs.declared.kinds.Token.{Token}
 use Rattle.c_token.specs.declared.kinds.TokenError.{TokenError}
 use Rattle.c_token.specs.declared.kinds.TokenError.TheVariants as token
-use Rattle.c_token.specs.Lexemes.{Placed, lexeme_of, placed_all}
+use Rattle.c_token.specs.Lexemes.{lexeme_of, placed_all}
 use Rattle.c_grammar.specs.declared.expr.Expr.{Expr}
 use Rattle.c_grammar.specs.declared.stmt.Stmt.{Stmt}
 use Rattle.c_grammar.specs.declared.item.Item.{Item}
 use Rattle.c_grammar.specs.declared.item.Program.{Program}
 use Rattle.c_grammar.specs.Same as same
 use Rattle.c_grammar.specs.Same.{Same, SameExpr, SameStmt, SameStmts, SameItem, SameItems, SameOption, SameParameters}
-use Rattle.c_grammar.specs.Places.{Reads, IsExpectedAt, IsDeepAt, IsShallowBefore}
+use Rattle.c_grammar.specs.Places.{Reads}
 use Rattle.c_grammar.specs.AlikeKinds.{lexemes_in, same_reads}
 use Rattle.c_grammar.specs.AlikePlaces.{same_expected, same_deep, same_shallow}
 use Rattle.c_grammar.specs.PlaceLaws.{reads-expected, reads-deep, expected-one, deep-one, expected-deep}
@@ -27,12 +26,11 @@ use Rattle.c_reader.specs.declared.error.SyntaxError.{SyntaxError}
 use Rattle.c_reader.specs.declared.error.SyntaxError.TheVariants as syntax
 use Rattle.c_reader.specs.Refusals.{IsRefusedAs, OneProgram}
 use Rattle.aegis_run.specs.declared.ends.File.TheVariants.{Source, Script, Input}
-use Rattle.aegis_run.specs.declared.ends.End.{End}
 use Rattle.aegis_run.specs.declared.ends.TopEnd.{TopEnd}
 use Rattle.aegis_run.specs.declared.ends.TopEnd.TheVariants.{Run, Usage, TooLong, Token as TokenEnd, Syntax, Typing, NotYet, NoFile, ReadFault, OutOfMemory}
-use Rattle.aegis_run.specs.Literals.{number_in, released_by, returns_literal, in_front, body_literals, is_main, is_nothing, item_literals, items_literals, literals_of}
+use Rattle.aegis_run.specs.Literals.{number_in, released_by, returns_literal, in_front, body_literals, is_nothing, item_literals, items_literals, literals_of}
 use Rattle.aegis_run.specs.SourceText.{HasTokens, kinds_in, IsText, IsAlways, HasTokenFault, HasSyntaxFault, HasTypeFault}
-use Rattle.aegis_run.specs.Answer.{Releases, IsNotYet, SourceFault, SureFault}
+use Rattle.aegis_run.specs.Answer.{Releases, SourceFault, SureFault}
 
 -- ---- programs that differ in token numbers alone release the same literals
 

@@ -1,6 +1,6 @@
 -- Programs of literal releases keep the typing rules, and a program has one type error.
-use Rattle.std.proofs.Common.{◌≡◌, ◌≢◌, ◌⊎◌, inl, inr, ◌≤◌, ◌<◌, ℕ, Bool, true, false, not, ◌&&◌, ◌||◌, List, [], ◌∷◌, ◌++◌, length, Option, None, Some, refl, sym, ◌∙◌, ap, subst, arith}
-use Rattle.std.specs.Prelude.{◌==◌, codes, is_some, if◌then◌else◌}
+use Rattle.std.proofs.Common.{◌≡◌, ◌≢◌, inl, inr, ◌≤◌, ℕ, Bool, true, false, not, ◌&&◌, List, [], ◌∷◌, ◌++◌, length, Option, None, Some, refl, sym, ◌∙◌, ap, subst, arith}
+use Rattle.std.specs.Prelude.{codes, is_some, if◌then◌else◌}
 use Rattle.std.specs.Str.{bytes_eq}
 use Rattle.arrayvec.specs.ArrayString.{ArrayString}
 use Rattle.c_grammar.specs.declared.expr.Expr.{Expr}
@@ -27,11 +27,10 @@ use Rattle.c_grammar.specs.declared.expr.Expr.TheOpen.{Expr-F}
 use Rattle.c_grammar.specs.declared.expr.Expr.TheFolds.{fold-roll-Expr}
 use Rattle.c_grammar.specs.declared.stmt.Stmt.TheOpen.{Stmt-F}
 use Rattle.c_grammar.specs.declared.stmt.Stmt.TheFolds.{fold-roll-Stmt}
-use Rattle.c_types.specs.Sites.{Place, behind, ExprSites, expr_step, StmtSites, stmt_step, part_sites, expr_sites, stmt_sites, body_sites, item_sites, Follows}
-use Rattle.c_types.specs.Checked as types
+use Rattle.c_types.specs.Sites.{Place, behind, ExprSites, expr_step, StmtSites, stmt_step, part_sites, expr_sites, stmt_sites, body_sites, item_sites}
 use Rattle.c_types.specs.Checked.{IsTyped, IsRefused, KeepsRules, error_at, has_main}
-use Rattle.aegis_run.specs.Literals.{number_in, released_by, returns_literal, in_front, body_literals, is_int, is_nothing, is_main, item_literals, items_literals, literals_of}
-use Rattle.aegis_run.proofs.LengthLemmas.{Parts, parts, where_true}
+use Rattle.aegis_run.specs.Literals.{number_in, released_by, returns_literal, body_literals, is_int, is_nothing, is_main, item_literals, items_literals, literals_of}
+use Rattle.aegis_run.proofs.LengthLemmas.{parts, where_true}
 
 -- ---- a program has one type error
 

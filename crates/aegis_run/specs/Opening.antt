@@ -3,9 +3,8 @@ use Rattle.std.specs.Prelude.{◌≡◌, ℕ, List, Option}
 use Rattle.aegis_edge.specs.Faults.{Rose}
 use Rattle.aegis_edge.specs.Folder.{Files}
 use Rattle.aegis_run.specs.declared.ends.File.{File}
-use Rattle.aegis_run.specs.declared.ends.File.TheVariants.{Source, Script, Input}
 use Rattle.aegis_run.specs.declared.ends.TopEnd.{TopEnd}
-use Rattle.aegis_run.specs.declared.ends.TopEnd.TheVariants.{Run, Usage, TooLong, Token, Syntax, Typing, NotYet, NoFile, ReadFault, OutOfMemory}
+use Rattle.aegis_run.specs.declared.ends.TopEnd.TheVariants.{Run, TooLong, NoFile, ReadFault, OutOfMemory}
 use Rattle.aegis_run.specs.declared.words.RunWords.{RunWords}
 use Rattle.aegis_run.specs.Words.{RunNames}
 use Rattle.aegis_run.specs.Answer.{IsAbsent, IsOverlong, SourceFault}

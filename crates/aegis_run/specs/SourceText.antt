@@ -1,5 +1,5 @@
 -- Which program a text is, and why it is none.
-use Rattle.std.specs.Prelude.{◌≡◌, ℕ, List, map, Result, Ok, Err}
+use Rattle.std.specs.Prelude.{◌≡◌, ℕ, List, map, Ok, Err}
 use Rattle.c_token.specs.declared.kinds.Kind.{Kind}
 use Rattle.c_token.specs.declared.kinds.Token.{Token}
 use Rattle.c_token.specs.declared.kinds.TokenError.{TokenError}
@@ -10,7 +10,7 @@ use Rattle.c_grammar.specs.Places.{Reads}
 use Rattle.c_reader.specs.declared.error.SyntaxError.{SyntaxError}
 use Rattle.c_reader.specs.Refusals.{IsRefusedAs}
 use Rattle.c_types.specs.declared.error.TypeError.{TypeError}
-use Rattle.c_types.specs.Checked.{IsTyped, IsRefused}
+use Rattle.c_types.specs.Checked.{IsRefused}
 
 -- the text has these tokens
 abbrev pub HasTokens : List ℕ → List Token → Type 0

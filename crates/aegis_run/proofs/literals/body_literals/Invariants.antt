@@ -1,4 +1,4 @@
-use Rattle.std.proofs.Common.{◌≡◌, ℕ, length}
+use Rattle.std.proofs.Common.{◌≡◌, length}
 use Rattle.aegis_run.specs.Literals.{body_literals}
 use Rattle.aegis_run.proofs.LiteralLemmas.{prefixed}
 use Rattle.aegis_run.proofs.literals.body_literals.Given as goal
