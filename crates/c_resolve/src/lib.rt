@@ -10,3 +10,6 @@ mod typed;
 mod whole;
 
 pub use whole::{mean, resolve};
+
+#[cfg(test)]
+mod tests;
