@@ -131,12 +131,12 @@ pub fn statement(
             body,
             ..
         } => {
-            let start = names.len();
+            let outside = names.len();
             let first = branch(alloc, functions, names, first)?;
             let test = part(alloc, functions, names, test)?;
             let step = branch_inside(alloc, functions, names, step)?;
             let body = inside(alloc, functions, names, body.get())?;
-            names.forget(start)?;
+            names.forget(outside)?;
             Ok(c_plain::Stmt::For {
                 first,
                 test,

@@ -45,7 +45,7 @@ statement-returns-in_ok-forget-in-For-clause-at t c =
 pub statement-returns-in_ok-forget-in-For-clause-declared : goal.statement-returns-in_ok-forget-in-For-clause-declared
 statement-returns-in_ok-forget-in-For-clause-declared t c =
     c.in_ok-forget-in-For.ensures
-    ∙ ap (λ n. take n c.inside-in-For.new.names) c.len-start-in-For.ensures
+    ∙ ap (λ n. take n c.inside-in-For.new.names) c.len-outside.ensures
     ∙ ap (λ ds. take (length c.args.names.now) ds) (c.in_ok-body-in-For.ensures.same ∙ c.in_ok-step-in-For.ensures.same ∙ c.in_ok-first-in-For.ensures.declared)
     ∙ kept c.args.names.now (branch_declared c.args.functions.now c.in-For.first)
     ∙ sym (append-nil c.args.names.now)
