@@ -1,0 +1,1 @@
+int a[2560];__untrusted void gap(void);int main(void){int i;for(i=0;i<2560;i=i+16)a[i]=i+1;gap();release(a[2544]);return 0;}

@@ -1,0 +1,1 @@
+int main(void){release(1/(input()+1));return 0;}

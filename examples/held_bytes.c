@@ -1,0 +1,1 @@
+__logged int g[1];int main(void){int i;i=g[0];while(i<300){release(i);i=i+1;}return 0;}

@@ -1,0 +1,1 @@
+int a[3];int main(void){int i;i=3;release(65);release(a[i]);return 0;}

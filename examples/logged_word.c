@@ -1,0 +1,1 @@
+__logged int g[16];__untrusted void gap(void);int main(void){gap();release(g[0]);return 0;}

@@ -1,0 +1,1 @@
+int main(void){int a;unsigned b;a=-1;b=1;release(a<b);return 0;}

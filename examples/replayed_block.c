@@ -1,0 +1,1 @@
+int a[2560];__untrusted void gap(void);void sweep(int v){int i;for(i=0;i<2560;i=i+16)a[i]=v;}int main(void){sweep(1);gap();sweep(2);gap();release(a[0]);return 0;}

@@ -1,0 +1,1 @@
+__shared int s;__untrusted void gap(void);int main(void){gap();release(s);return 0;}

@@ -1,0 +1,1 @@
+int a[65536];int b[65536];int main(void){return 0;}

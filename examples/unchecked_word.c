@@ -1,0 +1,1 @@
+__logged int g[1];__untrusted void gap(void);int main(void){gap();while(g[0]);return 0;}

@@ -1,0 +1,1 @@
+__untrusted void gap(void);int main(void){gap();release(79);release(75);return 0;}
