@@ -1,7 +1,3 @@
-pub mod Lookups
-pub mod Sizes
-pub mod Given
-pub mod Callable
-pub mod Forms
-pub mod Ends
-pub mod Started
+pub mod Lists
+pub mod Rows
+pub mod Programs

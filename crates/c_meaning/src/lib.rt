@@ -1,15 +1,16 @@
-//! The meaning of programs of the source language, computed: a direct evaluator.
+//! Programs of the source language with their names resolved, and what they mean.
 #![tactic(auto)]
 
-mod evaluate;
-mod fault;
-mod flow;
-mod machine;
-mod mean_end;
-mod run;
+mod expressions;
+mod items;
+mod names;
+mod operators;
+mod statements;
+mod typed;
+mod whole;
 
-pub use mean_end::MeanEnd;
-pub use run::mean_resolved;
+pub use c_evaluator::MeanEnd;
+pub use whole::{mean, resolve};
 
 #[cfg(test)]
 mod tests;

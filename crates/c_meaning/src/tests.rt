@@ -1,105 +1,49 @@
-use crate::{MeanEnd, mean_resolved};
-use aegis_num::{BinaryOp, OutOfMemory};
-use c_plain::{Expr, Function, Object, Program, Stmt, Variable};
-use sqlite_items::{Boxed, Items};
+//! A small program from its text to what it releases.
+ghost use Rattle.std.specs.Prelude.{◌≤◌, length, IfOk};
+ghost use Rattle.aegis_num.specs.declared.limits.TheConstants.{MAX_SOURCE_BYTES};
+ghost use Rattle.c_types.specs.Checked.{IsRead};
+
+use crate::mean;
+use aegis_num::limits::MAX_SOURCE_BYTES;
+use c_evaluator::MeanEnd;
+use c_grammar::Program;
+use c_reader::{SyntaxError, read_program};
+use c_token::{Token, tokens};
+use c_types::check;
 use std::alloc::Global;
 use std::test::Fail;
 
-fn number(value: u32) -> Expr {
-    Expr::Number { value }
+/// The program of these tokens.
+fn program_of(alloc: Global, tokens: &[Token]) -> Result<Program, SyntaxError>
+    requires { length tokens.now ≤ MAX_SOURCE_BYTES }
+    ensures { IfOk result (λ p. IsRead p) }
+{
+    read_program(alloc, tokens)
 }
 
-fn only_main(alloc: Global, body: Stmt) -> Result<Program, OutOfMemory> {
-    let mut statements = Items::new(alloc);
-    statements.push(body)?;
-    let mut functions = Items::new(alloc);
-    functions.push(Function {
-        parameters: Items::new(alloc),
-        body: statements,
-    })?;
-    Ok(Program {
-        objects: Items::new(alloc),
-        functions,
-        main: 0,
-    })
-}
-
-fn runs(
-    alloc: Global,
-    program: &Program,
-    input: &[u8],
-    turns: u64,
-    bytes: &[u8],
-    end: MeanEnd,
-) -> Result<bool, OutOfMemory> {
-    let mut out = Vec::new(alloc);
-    let found = mean_resolved(alloc, program, input, turns, &mut out)?;
-    Ok(found == end && out.as_slice() == bytes)
-}
-
-/// `while(1)release(0);`
-fn endless(alloc: Global) -> Result<Program, OutOfMemory> {
-    let release = Stmt::Release { value: number(0) };
-    only_main(
-        alloc,
-        Stmt::While {
-            test: number(1),
-            body: Boxed::new(alloc, release)?,
-        },
-    )
-}
-
-/// `release(1/(input()+1));`, with the division as token 9
-fn divides(alloc: Global) -> Result<Program, OutOfMemory> {
-    let sum = Expr::Binary {
-        at: 13,
-        op: BinaryOp::Add,
-        left: Boxed::new(alloc, Expr::Input)?,
-        right: Boxed::new(alloc, number(1))?,
-    };
-    let quotient = Expr::Binary {
-        at: 9,
-        op: BinaryOp::DivS,
-        left: Boxed::new(alloc, number(1))?,
-        right: Boxed::new(alloc, sum)?,
-    };
-    only_main(alloc, Stmt::Release { value: quotient })
-}
-
-/// `int a[3];` and `a[input()]=7;` with the sign `[` as token 8
-fn stores(alloc: Global) -> Result<Program, OutOfMemory> {
-    let array = Variable {
-        token: 1,
-        class: None,
-    };
-    let mut program = only_main(
-        alloc,
-        Stmt::Store {
-            at: 8,
-            array,
-            length: 3,
-            index: Expr::Input,
-            value: number(7),
-        },
-    )?;
-    program.objects.push(Object {
-        variable: array,
-        first: Items::new(alloc),
-    })?;
-    Ok(program)
-}
-
+/// A local of a `for` and of a block end with them, `>>` goes by the type of its left operand, and `<` with one `unsigned`
+/// operand reads both so.
 #[test]
-fn programs_run(rt: HostRuntime) -> Result<(), Fail> {
+fn a_program_means_what_its_scopes_and_types_say(rt: HostRuntime) -> Result<(), Fail> {
     let alloc = rt.alloc();
-    let endless = endless(alloc)?;
-    let divides = divides(alloc)?;
-    let stores = stores(alloc)?;
-    assert!(&rt; runs(alloc, &endless, &[], 5, &[0; 5], MeanEnd::Turns)?);
-    assert!(&rt; runs(alloc, &endless, &[], 0, &[], MeanEnd::Turns)?);
-    assert!(&rt; runs(alloc, &divides, &[], 0, &[], MeanEnd::Divide { at: 9 })?);
-    assert!(&rt; runs(alloc, &divides, &[0], 0, &[1], MeanEnd::Ended)?);
-    assert!(&rt; runs(alloc, &stores, &[2], 0, &[], MeanEnd::Ended)?);
-    assert!(&rt; runs(alloc, &stores, &[3], 0, &[], MeanEnd::Index { at: 8 })?);
+    let text = b"const int low = -8;\n\
+        int next(int a) { { int a = 5; release(a); } return a + 1; }\n\
+        int main(void) {\n\
+          int i = 7;\n\
+          for (int i = 0; i < 2; i = i + 1) release(i);\n\
+          release(i);\n\
+          release(low >> 1u);\n\
+          if (low < 1u) release(1); else release(2);\n\
+          release(next(input()));\n\
+          return 0;\n\
+        }\n";
+    assert!(rt; text.len() as u64 <= MAX_SOURCE_BYTES);
+    let tokens = tokens(alloc, text)?;
+    assert!(rt; tokens.len() as u64 <= MAX_SOURCE_BYTES);
+    let checked = check(alloc, program_of(alloc, tokens.as_slice())?)?;
+    let mut out = Vec::new(alloc);
+    let end = mean(alloc, &checked, &[3], 10, &mut out)?;
+    assert_eq!(rt; end, MeanEnd::Ended);
+    assert_eq!(rt; out.as_slice(), [0, 1, 7, 252, 2, 5, 4].as_slice());
     Ok(())
 }

@@ -1,0 +1,104 @@
+-- What the evaluator keeps, as a state of the meaning in which nothing is noted.
+use Rattle.std.specs.Prelude.{ℕ, ◌≡◌, false, List, [], length, slice_index, slice_index_or, drop, cond, ◌==◌, Ok, Err, IsErr}
+use Rattle.std.specs.declared.result.Result.{Result}
+use Rattle.aegis_num.specs.declared.memory.OutOfMemory.{OutOfMemory}
+use Rattle.c_plain.specs.States.{State, Setting, Outcome, GoesOn, EndsAs, End, Ended, Index, Divide, Turns}
+use Rattle.c_evaluator.specs.declared.machine.Machine.{Machine}
+use Rattle.execution.specs.Traffic.{traffic_from}
+use Rattle.c_plain.specs.Tree
+use Rattle.c_plain.specs.Meaning
+use Rattle.c_plain.specs.Meaning.{no_class, first_memory}
+use Rattle.std.proofs.Common.{Vec, Global}
+use Rattle.c_evaluator.specs.declared.flow.Flow.{Flow}
+use Rattle.c_evaluator.specs.declared.flow.Flow.TheVariants as flow
+use Rattle.c_evaluator.specs.declared.flow.Turn.{Turn}
+use Rattle.c_evaluator.specs.declared.flow.Turn.TheVariants as turn
+use Rattle.c_evaluator.specs.declared.mean_end.MeanEnd.{MeanEnd}
+use Rattle.c_evaluator.specs.declared.mean_end.MeanEnd.TheVariants as mean
+use Rattle.c_evaluator.specs.declared.fault.Fault.{Fault}
+use Rattle.c_evaluator.specs.declared.fault.Fault.TheVariants as fault
+
+-- the word of an element, where each variable has a list of words by its token: zero where none was written
+abbrev pub memory_of : List (List ℕ) → ℕ → ℕ → ℕ
+memory_of variables x i = slice_index (slice_index_or variables x []) i
+
+-- nothing is loose, and nothing is noted
+abbrev pub bare : Setting
+bare = record { is_loose = no_class; is_noted = false }
+
+-- what a machine keeps, as a state
+abbrev pub seen : Machine → State
+seen m = record {
+  memory = memory_of m.variables.items;
+  turns = m.turns;
+  work = 0;
+  traffic = record {
+    input = drop m.next m.input.items;
+    loose = [];
+    taken = 0;
+    bytes = m.released.items;
+    writes = [];
+    releases = length m.released.items;
+    checks = 0;
+    suspensions = 0;
+  };
+}
+
+-- before the first step
+abbrev pub started : List Tree.Object → List ℕ → ℕ → State
+started objects input turns = record { memory = first_memory objects; turns = turns; work = 0; traffic = traffic_from input [] }
+
+-- the state with other words of one variable
+abbrev pub placed : ℕ → List ℕ → State → State
+placed token words s = record s { memory = λ x i. cond (token == x) (slice_index words i) (s.memory x i) }
+
+-- The evaluator does what the meaning says: it goes on with the value, as it is seen, or ends as it does. Where memory ran out
+-- nothing is said.
+abbrev pub DoesAs : {A B : Type 0} → (B → A) → Outcome A → Result B Fault → State → Type 0
+DoesAs view outcome (Ok value) state = outcome ≡ GoesOn (view value) state
+DoesAs view outcome (Err (fault.Index at)) state = outcome ≡ EndsAs (Index at) state
+DoesAs view outcome (Err (fault.Divide at)) state = outcome ≡ EndsAs (Divide at) state
+DoesAs view outcome (Err fault.Turns) state = outcome ≡ EndsAs Turns state
+DoesAs view outcome (Err fault.OutOfMemory) state = Unit {0}
+
+-- the same, of a word
+abbrev pub Does : Outcome ℕ → Result ℕ Fault → State → Type 0
+Does outcome result state = DoesAs (λ word. word) outcome result state
+
+-- the same, of words
+abbrev pub DoesWords : Outcome (List ℕ) → Result (Vec ℕ Global) Fault → State → Type 0
+DoesWords outcome result state = DoesAs (λ (words : Vec ℕ Global). words.items) outcome result state
+
+-- how a statement is left
+abbrev pub flow_of : Flow → Meaning.Flow
+flow_of flow.Next = Meaning.Next
+flow_of flow.Broke = Meaning.Broke
+flow_of flow.Continued = Meaning.Continued
+flow_of (flow.Returned value) = Meaning.Returned value
+
+abbrev pub turn_of : Turn → Meaning.Turn
+turn_of turn.Again = Meaning.Again
+turn_of (turn.Leaves flow) = Meaning.Leaves (flow_of flow)
+
+-- the same, of a statement
+abbrev pub DoesFlow : Outcome Meaning.Flow → Result Flow Fault → State → Type 0
+DoesFlow outcome result state = DoesAs flow_of outcome result state
+
+-- the same, of a turn
+abbrev pub DoesTurn : Outcome Meaning.Turn → Result Turn Fault → State → Type 0
+DoesTurn outcome result state = DoesAs turn_of outcome result state
+
+-- how a run ends
+abbrev pub end_of : MeanEnd → End
+end_of mean.Ended = Ended
+end_of (mean.Index at) = Index at
+end_of (mean.Divide at) = Divide at
+end_of mean.Turns = Turns
+
+-- how the answer of main tells the end of the run
+abbrev pub EndsSo : Result ℕ Fault → Result MeanEnd OutOfMemory → Type 0
+EndsSo (Ok value) answer = answer ≡ Ok mean.Ended
+EndsSo (Err (fault.Index at)) answer = answer ≡ Ok (mean.Index at)
+EndsSo (Err (fault.Divide at)) answer = answer ≡ Ok (mean.Divide at)
+EndsSo (Err fault.Turns) answer = answer ≡ Ok mean.Turns
+EndsSo (Err fault.OutOfMemory) answer = IsErr answer

@@ -1,7 +1,0 @@
-use Rattle.std.proofs.Common.{◌≡◌, drop}
-use Rattle.c_plain.specs.Meaning.{given}
-use Rattle.c_meaning.specs.Seen.{bare, seen}
-use Rattle.c_meaning.proofs.evaluate.give.Given as goal
-
-abbrev pub invariant-loop-i : goal.invariant-loop-i
-invariant-loop-i l = given bare (drop l.i l.parameters) (drop l.i l.words) (seen l.machine) ≡ given bare l.parameters l.words (seen l.fn.machine)

@@ -1,0 +1,10 @@
+use Rattle.std.proofs.Common.{◌≡◌, ◌++◌, drop}
+use Rattle.c_types.specs.Sites.{declarations_of}
+use Rattle.c_plain.specs.Views.{functions_of}
+use Rattle.c_meaning.specs.Resolving.{functions_in}
+use Rattle.c_meaning.proofs.items.functions_in.Given as goal
+
+abbrev pub invariant-loop-item : goal.invariant-loop-item
+invariant-loop-item l =
+    (functions_in l.functions l.items l.initial.names ≡ functions_of l.done ++ functions_in l.functions (drop l.item-index l.items) l.names)
+    × (l.initial.names ++ declarations_of l.items ≡ l.names ++ declarations_of (drop l.item-index l.items))
