@@ -11,12 +11,13 @@ use Rattle.c_grammar.specs.AlikeKinds.{alike, kinds-numbered}
 use Rattle.c_grammar.specs.AlikePrograms.{same_program}
 use Rattle.c_reader.specs.declared.error.SyntaxError.{SyntaxError}
 use Rattle.c_reader.specs.declared.error.SyntaxError.TheVariants as error
-use Rattle.c_reader.specs.Parser.{Reason, expected, deep, exhausted, Outcome, done, stop}
+use Rattle.c_parser.specs.Parser.{Reason, expected, deep, exhausted, Outcome, done, stop}
 use Rattle.c_reader.specs.Programs.{program}
-use Rattle.c_reader.specs.Reads.{place_or, Answers}
+use Rattle.c_parser.specs.Reads.{place_or}
+use Rattle.c_reader.specs.Reads.{Answers}
 use Rattle.c_reader.specs.Refusals.{IsRefusedAs, OneProgram}
-use Rattle.c_reader.proofs.Holds.{Alike, Opens, Holds, reaches, stops, Stops}
-use Rattle.c_reader.proofs.Comes.{To, arrives, late}
+use Rattle.c_parser.proofs.Holds.{Alike, Opens, Holds, reaches, stops, Stops}
+use Rattle.c_parser.proofs.Comes.{To, arrives, late}
 use Rattle.c_reader.proofs.Declaring.{program_at}
 use Rattle.c_reader.proofs.Recognising.{program_goes}
 

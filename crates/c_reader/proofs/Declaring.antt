@@ -18,20 +18,20 @@ use Rattle.c_grammar.specs.Statements as gs
 use Rattle.c_grammar.specs.Statements.{IsType, Body}
 use Rattle.c_grammar.specs.Programs as gr
 use Rattle.c_grammar.specs.Programs.{IsStorage, IsLength, IsValue, AreValues, AreInitial, IsResult, IsParameter, AreListed, AreParameters, IsPrivate, IsItem, AreItems, IsProgram}
-use Rattle.c_reader.specs.declared.cursor.Named.{Named}
-use Rattle.c_reader.specs.declared.statement.Braces.{Braces}
+use Rattle.c_parser.specs.declared.cursor.Named.{Named}
+use Rattle.c_parser.specs.declared.statement.Braces.{Braces}
 use Rattle.c_reader.specs.declared.item.Heading.{Heading}
 use Rattle.c_reader.specs.declared.item.Heading.TheVariants as heading
 use Rattle.c_reader.specs.declared.item.Given.{Given}
-use Rattle.c_reader.specs.Parser.{separated}
-use Rattle.c_reader.specs.Statements as st
+use Rattle.c_parser.specs.Parser.{is_left, separated}
+use Rattle.c_parser.specs.Statements as st
 use Rattle.c_reader.specs.Programs as p
-use Rattle.c_reader.specs.Programs.{heading_of, heading_at, is_left, storage_of, result_of}
-use Rattle.c_reader.proofs.Holds.{Seq, seq, Mapped, mapped, Alike, Holds, Always, Full, mono, bind, mapping, dispatch, head_kind, Nothing, nothing, giving, free, no_text, full_seq, full_mapped, full_sign, full_word, full_name, full_number, Takes, Many, none_left, one_more, IsSign, is_sign, signing, IsWord, is_word, wording, IsName, is_name, naming, IsNumber, is_number, numbering, refusing}
-use Rattle.c_reader.proofs.Lists.{listing, separating, separated_made, Comma}
-use Rattle.c_reader.proofs.Expressing.{if_sign}
-use Rattle.c_reader.proofs.Stating.{if_word, Typed, typed, type_at, full_type}
-use Rattle.c_reader.proofs.Bodies.{Braced, braced_at, full_body, statement_at}
+use Rattle.c_reader.specs.Programs.{heading_of, heading_at, storage_of, result_of}
+use Rattle.c_parser.proofs.Holds.{Seq, seq, Mapped, mapped, Alike, Holds, Always, Full, mono, bind, mapping, dispatch, head_kind, Nothing, nothing, giving, free, no_text, full_seq, full_mapped, full_sign, full_word, full_name, full_number, Takes, Many, none_left, one_more, IsSign, is_sign, signing, IsWord, is_word, wording, IsName, is_name, naming, IsNumber, is_number, numbering, refusing}
+use Rattle.c_parser.proofs.Lists.{listing, separating, separated_made, Comma}
+use Rattle.c_parser.proofs.Expressing.{if_sign}
+use Rattle.c_parser.proofs.Stating.{if_word, Typed, typed, type_at, full_type}
+use Rattle.c_parser.proofs.Bodies.{Braced, braced_at, full_body, statement_at}
 
 -- a type at whatever spot
 abbrev Any : Spot → Type 0

@@ -20,19 +20,19 @@ use Rattle.c_grammar.specs.Statements as gs
 use Rattle.c_grammar.specs.Statements.{IsType, Body}
 use Rattle.c_grammar.specs.Programs as gr
 use Rattle.c_grammar.specs.Programs.{IsStorage, IsLength, IsValue, AreValues, AreInitial, IsResult, IsParameter, AreListed, AreParameters, IsPrivate, IsItem, AreItems, IsProgram}
-use Rattle.c_reader.specs.declared.cursor.Named.{Named}
+use Rattle.c_parser.specs.declared.cursor.Named.{Named}
 use Rattle.c_reader.specs.declared.item.Heading.TheVariants as heading
-use Rattle.c_reader.specs.Parser.{done, Parser, follow, ◌>>=◌, gives, first_kind, is_at_sign, is_at_word, sign, word, name, number, separated}
-use Rattle.c_reader.specs.Statements as st
+use Rattle.c_parser.specs.Parser.{done, Parser, follow, ◌>>=◌, gives, first_kind, is_left, is_at_sign, is_at_word, sign, word, name, number, separated}
+use Rattle.c_parser.specs.Statements as st
 use Rattle.c_reader.specs.Programs as p
-use Rattle.c_reader.specs.Programs.{heading_of, heading_at, is_left, storage_of, result_of}
-use Rattle.c_reader.proofs.Holds.{Seq, seq, Mapped, mapped, Many, none_left, one_more, is_sign}
-use Rattle.c_reader.proofs.Lists.{Comma}
-use Rattle.c_reader.proofs.Comes.{To, arrives, Goes, step, map_to, sign_goes, name_goes, number_goes, word_goes}
-use Rattle.c_reader.proofs.ComesLists.{all_reads, separated_reads}
-use Rattle.c_reader.proofs.Bodies.{statement_at}
+use Rattle.c_reader.specs.Programs.{heading_of, heading_at, storage_of, result_of}
+use Rattle.c_parser.proofs.Holds.{Seq, seq, Mapped, mapped, Many, none_left, one_more, is_sign}
+use Rattle.c_parser.proofs.Lists.{Comma}
+use Rattle.c_parser.proofs.Comes.{To, arrives, Goes, step, map_to, sign_goes, name_goes, number_goes, word_goes}
+use Rattle.c_parser.proofs.ComesLists.{all_reads, separated_reads}
+use Rattle.c_parser.proofs.Bodies.{statement_at}
 use Rattle.c_reader.proofs.Declaring.{parameter_at, full_parameter, value_at, full_value, item_at, item_takes, head_left}
-use Rattle.c_reader.proofs.Understanding.{type_reads, braced_goes, statement_goes}
+use Rattle.c_parser.proofs.Understanding.{type_reads, braced_goes, statement_goes}
 
 -- what a type begins with
 module _ (us : List Bounded) (s : List Tok) where

@@ -1,7 +1,3 @@
-pub mod Toks
-pub mod Parser
-pub mod Expressions
-pub mod Statements
 pub mod Programs
 pub mod Reads
 pub mod Refusals

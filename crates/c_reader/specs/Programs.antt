@@ -1,6 +1,6 @@
 -- How programs are read. `limit` is how many operators of two operands one expression may have,
 -- and `levels` how many levels may be open.
-use Rattle.std.specs.Prelude.{is_some, ℕ, Bool, true, false, List, [], ◌∷◌, Option, Some, None, if◌then◌else◌}
+use Rattle.std.specs.Prelude.{ℕ, Bool, true, false, List, [], ◌∷◌, Option, Some, None, if◌then◌else◌}
 use Rattle.c_token.specs.declared.words.Word.{Word}
 use Rattle.c_token.specs.declared.words.Word.TheVariants as words
 use Rattle.c_token.specs.declared.signs.Sign.TheVariants as signs
@@ -15,13 +15,13 @@ use Rattle.c_grammar.specs.declared.item.Kind3.TheVariants as result
 use Rattle.c_grammar.specs.declared.item.Parameter.{Parameter}
 use Rattle.c_grammar.specs.declared.item.Value.{Value}
 use Rattle.c_grammar.specs.declared.item.Program.{Program}
-use Rattle.c_reader.specs.declared.cursor.Named.{Named}
+use Rattle.c_parser.specs.declared.cursor.Named.{Named}
 use Rattle.c_reader.specs.declared.item.Heading.{Heading}
 use Rattle.c_reader.specs.declared.item.Heading.TheVariants as heading
 use Rattle.c_reader.specs.declared.item.Given.{Given}
-use Rattle.c_reader.specs.Toks.{Tok}
-use Rattle.c_reader.specs.Parser.{done, Parser, ◌>>=◌, gives, refuses, first_kind, is_at_sign, is_at_word, sign, word, name, number, all, separated}
-use Rattle.c_reader.specs.Statements.{type_name, braced, statement}
+use Rattle.c_parser.specs.Toks.{Tok}
+use Rattle.c_parser.specs.Parser.{done, Parser, ◌>>=◌, gives, refuses, first_kind, is_left, is_at_sign, is_at_word, sign, word, name, number, all, separated}
+use Rattle.c_parser.specs.Statements.{type_name, braced, statement}
 
 -- what a token begins at the top of a program
 abbrev pub heading_of : Option Kind → Heading
@@ -220,10 +220,6 @@ item_by limit levels heading.Other = refuses
 
 unfoldable pub item_inside : ℕ → ℕ → Parser Item
 item_inside limit levels s = item_by limit levels (heading_at s) s
-
--- whether a token is left
-abbrev pub is_left : List Tok → Bool
-is_left s = is_some (first_kind s)
 
 -- items up to the end
 unfoldable pub items : ℕ → ℕ → Parser (List Item)

@@ -1,16 +1,13 @@
 //! Items, and whole programs.
 ghost use Rattle.std.specs.Prelude.{◌≡◌, [], OnOk};
-ghost use Rattle.c_reader.specs.Parser.{separated, behind_comma};
-ghost use Rattle.c_reader.specs.Statements.{statement};
+ghost use Rattle.c_parser.specs.Parser.{separated, behind_comma};
+ghost use Rattle.c_parser.specs.Statements.{statement};
 ghost use Rattle.c_reader.specs.Programs.{heading_of, heading_at, optional_length, object_rest, object, value_with, negative_value, value, one_value, braced_values, values, constant_rest, constant, no_parameters, untrusted, parameter, void_list, listed, parameters, function_rest, void_function, storage_of, result_of, typed_rest, typed, declared, private_item, item_inside, items, program};
-ghost use Rattle.c_reader.specs.Reads.{Reads, Takes, LeavesUpTo};
+ghost use Rattle.c_parser.specs.Reads.{Reads, Takes, LeavesUpTo};
 
-use crate::block::braced;
-use crate::cursor::{Cursor, Named};
-use crate::fault::Fault;
-use crate::statement::{Braces, type_name};
 use aegis_num::limits::{MAX_BINARY_OPERATORS, MAX_NESTING};
 use c_grammar::{Item, Kind3, Parameter, Program, Storage, Value};
+use c_parser::{Braces, Cursor, Fault, Named, braced, type_name};
 use c_token::{Kind, Sign, Word};
 use sqlite_items::Items;
 use std::alloc::Global;
@@ -151,7 +148,7 @@ fn value(cursor: &mut Cursor<'_>) -> Result<Value, Fault>
 }
 
 /// A comma, and the value behind it.
-#[tactic(auto, unfolding(crate::specs::Parser::behind_comma))]
+#[tactic(auto, unfolding(c_parser::specs::Parser::behind_comma))]
 fn next_value(cursor: &mut Cursor<'_>) -> Result<Value, Fault>
     ensures reads { Reads result cursor.new (behind_comma value cursor.old) }
     ensures takes { Takes result cursor.old cursor.new }
@@ -161,7 +158,7 @@ fn next_value(cursor: &mut Cursor<'_>) -> Result<Value, Fault>
 }
 
 /// One or more values, with commas between them.
-#[tactic(auto, unfolding(crate::specs::Parser::separated))]
+#[tactic(auto, unfolding(c_parser::specs::Parser::separated))]
 fn separated_values(alloc: Global, cursor: &mut Cursor<'_>) -> Result<Items<Value>, Fault>
     ensures reads { Reads result cursor.new (separated value cursor.old) }
     ensures takes { Takes result cursor.old cursor.new }
@@ -300,7 +297,7 @@ fn parameter(cursor: &mut Cursor<'_>) -> Result<Parameter, Fault>
 }
 
 /// A comma, and the parameter behind it.
-#[tactic(auto, unfolding(crate::specs::Parser::behind_comma))]
+#[tactic(auto, unfolding(c_parser::specs::Parser::behind_comma))]
 fn next_parameter(cursor: &mut Cursor<'_>) -> Result<Parameter, Fault>
     ensures reads { Reads result cursor.new (behind_comma parameter cursor.old) }
     ensures takes { Takes result cursor.old cursor.new }
@@ -310,7 +307,7 @@ fn next_parameter(cursor: &mut Cursor<'_>) -> Result<Parameter, Fault>
 }
 
 /// One or more parameters, with commas between them.
-#[tactic(auto, unfolding(crate::specs::Parser::separated))]
+#[tactic(auto, unfolding(c_parser::specs::Parser::separated))]
 fn separated_parameters(alloc: Global, cursor: &mut Cursor<'_>) -> Result<Items<Parameter>, Fault>
     ensures reads { Reads result cursor.new (separated parameter cursor.old) }
     ensures takes { Takes result cursor.old cursor.new }

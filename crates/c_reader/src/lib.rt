@@ -1,15 +1,10 @@
 //! Reads the tokens of a source text as a program.
 #![tactic(auto)]
 
-mod block;
-mod cursor;
 mod error;
-mod expression;
-mod fault;
 mod item;
 mod laws;
 mod reading;
-mod statement;
 #[cfg(test)]
 mod tests;
 

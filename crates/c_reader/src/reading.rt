@@ -1,17 +1,16 @@
 //! The reader of programs.
 ghost use Rattle.std.specs.Prelude.{◌≡◌, ◌≤◌, length, map, IfOk, IfErr};
 ghost use Rattle.c_grammar.specs.Places.{Reads};
-ghost use Rattle.c_reader.specs.Toks.{numbered, kinds_of};
+ghost use Rattle.c_parser.specs.Toks.{numbered, kinds_of};
 ghost use Rattle.c_reader.specs.Programs.{program};
 ghost use Rattle.c_reader.specs.Reads.{Answers};
 ghost use Rattle.c_reader.specs.Refusals.{IsRefusedAs};
 
-use crate::cursor::Cursor;
 use crate::error::SyntaxError;
-use crate::fault::Fault;
 use crate::item::program;
 use aegis_num::limits::{MAX_BINARY_OPERATORS, MAX_NESTING, MAX_SOURCE_BYTES};
 use c_grammar::Program;
+use c_parser::{Cursor, Fault};
 use c_token::Token;
 use std::alloc::Global;
 

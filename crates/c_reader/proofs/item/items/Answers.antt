@@ -2,7 +2,7 @@
 use Rattle.std.proofs.Common.{arith, sym, ◌∙◌}
 use Rattle.std.proofs.lemmas.Result.{err_from_is_err_and}
 use Rattle.c_reader.specs.Programs.{items}
-use Rattle.c_reader.proofs.Loops.{none_left, all-grows, grows-step, grows-end, grows-fault}
+use Rattle.c_parser.proofs.Loops.{none_left, all-grows, grows-step, grows-end, grows-fault}
 use Rattle.c_reader.proofs.item.items.Goals as goal
 
 pub each-init : goal.each-init

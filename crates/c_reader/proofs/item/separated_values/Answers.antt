@@ -1,7 +1,7 @@
 -- The loop over the list.
 use Rattle.std.proofs.Common.{arith, sym, ◌∙◌}
 use Rattle.std.proofs.lemmas.Result.{err_from_is_err_and}
-use Rattle.c_reader.proofs.Loops.{separated-grows, grows-step, grows-end, grows-fault}
+use Rattle.c_parser.proofs.Loops.{separated-grows, grows-step, grows-end, grows-fault}
 use Rattle.c_reader.proofs.item.separated_values.Goals as goal
 
 pub each-init : goal.each-init

@@ -1,9 +1,9 @@
 -- the list so far, and no more left than there was
 use Rattle.std.proofs.Common.{◌<◌, length}
 use Rattle.c_token.specs.declared.signs.Sign.TheVariants.{Comma}
-use Rattle.c_reader.specs.Parser.{is_at_sign, separated, behind_comma}
+use Rattle.c_parser.specs.Parser.{is_at_sign, separated, behind_comma}
 use Rattle.c_reader.specs.Programs.{value}
-use Rattle.c_reader.proofs.Loops.{Grows}
+use Rattle.c_parser.proofs.Loops.{Grows}
 use Rattle.c_reader.proofs.item.separated_values.Given as goal
 
 abbrev pub invariant-each : goal.invariant-each

@@ -6,7 +6,7 @@ use Rattle.c_token.specs.declared.kinds.Token.{Token}
 use Rattle.c_grammar.specs.declared.item.Program.{Program}
 use Rattle.c_grammar.specs.Places.{Reads}
 use Rattle.c_reader.specs.declared.error.SyntaxError.{SyntaxError}
-use Rattle.c_reader.specs.Toks.{numbered, kinds_of}
+use Rattle.c_parser.specs.Toks.{numbered, kinds_of}
 use Rattle.c_reader.specs.Programs.{program}
 use Rattle.c_reader.specs.Reads.{Answers}
 use Rattle.c_reader.specs.Refusals.{IsRefusedAs}

@@ -1,0 +1,233 @@
+-- How expressions are read. `limit` is how many operators of two operands one expression may have.
+use Rattle.std.specs.Prelude.{◌≡◌, Result, Ok, Err, ℕ, zero, suc, ◌+◌, ◌==◌, Bool, true, false, List, [], length, Option, Some, None, nat_lt, if◌then◌else◌}
+use Rattle.c_token.specs.declared.words.Word.TheVariants as words
+use Rattle.c_token.specs.declared.signs.Sign.{Sign}
+use Rattle.c_token.specs.declared.signs.Sign.TheVariants as signs
+use Rattle.c_token.specs.declared.kinds.Kind.{Kind}
+use Rattle.c_token.specs.declared.kinds.Kind.TheVariants as kinds
+use Rattle.c_grammar.specs.declared.expr.Expr.{Expr}
+use Rattle.c_grammar.specs.declared.expr.Expr.TheVariants as expr
+use Rattle.c_parser.specs.declared.cursor.Named.{Named}
+use Rattle.c_parser.specs.declared.fault.Fault.{Fault}
+use Rattle.c_parser.specs.declared.fault.Fault.TheVariants.{Deep}
+use Rattle.c_parser.specs.declared.expression.Grown.{Grown}
+use Rattle.c_parser.specs.declared.expression.Bracketed.{Bracketed}
+use Rattle.c_parser.specs.declared.expression.Operand.{Operand}
+use Rattle.c_parser.specs.declared.expression.Operand.TheVariants as operand
+use Rattle.c_parser.specs.Toks.{Tok}
+use Rattle.c_parser.specs.Parser.{deep, exhausted, Outcome, done, stop, Parser, follow, ◌>>=◌, gives, refuses, first_kind, is_at_sign, sign, word, name, number, separated}
+
+-- which of the ten ranks an operator of two operands has, from 1 for those that bind tightest; 0 for every other sign
+abbrev pub rank_of : Sign → ℕ
+rank_of signs.Star = 1
+rank_of signs.Slash = 1
+rank_of signs.Percent = 1
+rank_of signs.Plus = 2
+rank_of signs.Minus = 2
+rank_of signs.ShiftLeft = 3
+rank_of signs.ShiftRight = 3
+rank_of signs.LessThan = 4
+rank_of signs.GreaterThan = 4
+rank_of signs.LessOrEqual = 4
+rank_of signs.GreaterOrEqual = 4
+rank_of signs.EqualTo = 5
+rank_of signs.NotEqualTo = 5
+rank_of signs.Ampersand = 6
+rank_of signs.Caret = 7
+rank_of signs.VerticalBar = 8
+rank_of signs.LogicalAnd = 9
+rank_of signs.LogicalOr = 10
+rank_of _ = 0
+
+-- the sign, where it has this rank
+abbrev pub operator_of : ℕ → Option Kind → Option Sign
+operator_of rank (Some (kinds.Sign op)) = if rank_of op == rank then Some op else None
+operator_of rank _ = None
+
+-- the first token, where it is an operator of this rank
+unfoldable pub operator_at : ℕ → List Tok → Option Sign
+operator_at rank tokens = operator_of rank (first_kind tokens)
+
+-- `-`, `~` and `!`
+abbrev pub is_unary : Sign → Bool
+is_unary signs.Minus = true
+is_unary signs.Tilde = true
+is_unary signs.Exclamation = true
+is_unary _ = false
+
+-- the sign, where it is an operator of one operand
+abbrev pub unary_of : Option Kind → Option Sign
+unary_of (Some (kinds.Sign op)) = if is_unary op then Some op else None
+unary_of _ = None
+
+-- what a token begins that is no operator
+abbrev pub operand_of : Option Kind → Operand
+operand_of (Some (kinds.Number _ _)) = operand.Number
+operand_of (Some (kinds.Name _)) = operand.Name
+operand_of (Some (kinds.Word words.Input)) = operand.Input
+operand_of (Some (kinds.Sign signs.LeftParenthesis)) = operand.Paren
+operand_of _ = operand.Other
+
+-- The reader of unary expressions one level deeper, where a level is left.
+abbrev pub Inside : Type 0
+Inside = Option (Parser Expr)
+
+-- What is read one level deeper, where a level is left. The token that opens it is the next one.
+abbrev pub opened : {A : Type 0} → Inside → (Parser Expr → Parser A) → Parser A
+opened None p = λ s. stop deep s
+opened (Some unary) p = p unary
+
+-- an operator at the next token, and its right operand; the left operand is here already
+unfoldable pub joined : ℕ → (ℕ → Parser Grown) → Sign → Grown → Parser Grown
+joined limit operand op left = λ s.
+    if nat_lt left.used limit then (do
+      place ← sign op
+      right ← operand (left.used + 1)
+      gives (record { tree = expr.Binary op left.tree right.tree place; used = right.used })) s
+    else stop deep s
+
+-- what the operator gives, if one is there, and else the left operand alone
+abbrev pub chain_with : (Sign → Outcome Grown) → Grown → List Tok → Option Sign → Outcome Grown
+chain_with more left s None = done left s
+chain_with more left s (Some op) = more op
+
+-- the operators of one rank and their right operands, all grouping to the left; at most this many
+unfoldable pub chain : ℕ → (ℕ → Parser Grown) → ℕ → ℕ → Grown → Parser Grown
+chain limit operand rank zero left = λ s. stop exhausted s
+chain limit operand rank (suc n) left = λ s.
+    chain_with (λ op. follow (joined limit operand op left s) (chain limit operand rank n)) left s (operator_at rank s)
+
+-- the same; each takes a token
+unfoldable pub chained : ℕ → (ℕ → Parser Grown) → ℕ → Grown → Parser Grown
+chained limit operand rank left = λ s. chain limit operand rank (suc (length s)) left s
+
+-- an expression whose operators have at most this rank, where so many operators stand before it in the whole one
+unfoldable pub binary : ℕ → Parser Expr → ℕ → ℕ → Parser Grown
+binary limit unary zero used = do
+  tree ← unary
+  gives (record { tree = tree; used = used })
+binary limit unary (suc rank) used = do
+  left ← binary limit unary rank used
+  chained limit (binary limit unary rank) (suc rank) left
+
+-- an expression
+unfoldable pub expression : ℕ → Parser Expr → Parser Expr
+expression limit unary = do
+  grown ← binary limit unary 10 0
+  gives grown.tree
+
+-- `(`, an expression and `)`
+unfoldable pub paren : ℕ → Inside → Parser Expr
+paren limit inside = opened inside (λ unary. do
+  place ← sign signs.LeftParenthesis
+  inner ← expression limit unary
+  _ ← sign signs.RightParenthesis
+  gives (expr.Paren inner place))
+
+-- `[`, an expression and `]`
+unfoldable pub subscript : ℕ → Inside → Parser Bracketed
+subscript limit inside = opened inside (λ unary. do
+  place ← sign signs.LeftBracket
+  index ← expression limit unary
+  _ ← sign signs.RightBracket
+  gives (record { index = index; token = place }))
+
+-- arguments up to `)`, which is left
+unfoldable pub listed : ℕ → Parser Expr → Parser (List Expr)
+listed limit unary = λ s. if is_at_sign signs.RightParenthesis s then done [] s else separated (expression limit unary) s
+
+-- `(`, arguments and `)`
+unfoldable pub arguments : ℕ → Inside → Parser (List Expr)
+arguments limit inside = opened inside (λ unary. do
+  _ ← sign signs.LeftParenthesis
+  trees ← listed limit unary
+  _ ← sign signs.RightParenthesis
+  gives trees)
+
+-- `[ index ]` behind a name
+unfoldable pub indexed : ℕ → Inside → Named → Parser Expr
+indexed limit inside name = do
+  found ← subscript limit inside
+  gives (expr.Index name.name found.index found.token)
+
+-- `( arguments )` behind a name
+unfoldable pub called : ℕ → Inside → Named → Parser Expr
+called limit inside name = do
+  trees ← arguments limit inside
+  gives (expr.Call name.name trees name.token)
+
+-- what may stand behind a name: an index, arguments, or nothing
+unfoldable pub behind_name : ℕ → Inside → Named → Parser Expr
+behind_name limit inside name = λ s.
+    if is_at_sign signs.LeftBracket s then indexed limit inside name s
+    else (if is_at_sign signs.LeftParenthesis s then called limit inside name s
+    else done (expr.Name name.name name.token) s)
+
+-- a name, with an index or arguments
+unfoldable pub named : ℕ → Inside → Parser Expr
+named limit inside = do
+  found ← name
+  behind_name limit inside found
+
+-- a number
+unfoldable pub literal : Parser Expr
+literal = do
+  found ← number
+  gives (expr.Number found.value found.unsigned found.token)
+
+-- `input ( )`
+unfoldable pub input : Parser Expr
+input = do
+  place ← word words.Input
+  _ ← sign signs.LeftParenthesis
+  _ ← sign signs.RightParenthesis
+  gives (expr.Input place)
+
+-- the operand that begins so
+abbrev pub primary_by : ℕ → Inside → Operand → Parser Expr
+primary_by limit inside operand.Number = literal
+primary_by limit inside operand.Name = named limit inside
+primary_by limit inside operand.Input = input
+primary_by limit inside operand.Paren = paren limit inside
+primary_by limit inside operand.Other = refuses
+
+unfoldable pub primary : ℕ → Inside → Parser Expr
+primary limit inside s = primary_by limit inside (operand_of (first_kind s)) s
+
+-- an operator of one operand, and the operand
+unfoldable pub signed : Inside → Sign → Parser Expr
+signed inside op = opened inside (λ unary. do
+  place ← sign op
+  inner ← unary
+  gives (expr.Unary op inner place))
+
+abbrev pub unary_by : ℕ → Inside → Option Sign → Parser Expr
+unary_by limit inside (Some op) = signed inside op
+unary_by limit inside None = primary limit inside
+
+-- a unary expression, where this reads those one level deeper
+unfoldable pub unary_in : ℕ → Inside → Parser Expr
+unary_in limit inside s = unary_by limit inside (unary_of (first_kind s)) s
+
+-- the reader of unary expressions one level deeper, where so many levels are left
+unfoldable pub inside : ℕ → ℕ → Inside
+inside limit zero = None
+inside limit (suc n) = Some (unary_in limit (inside limit n))
+
+-- a unary expression, where so many levels are left
+unfoldable pub unary : ℕ → ℕ → Parser Expr
+unary limit levels = unary_in limit (inside limit levels)
+
+-- Whether a level is left, and how many are then.
+abbrev pub Opens : ℕ → Result ℕ Fault → Type 0
+Opens levels (Ok left) = levels ≡ suc left
+Opens levels (Err fault) = (levels ≡ 0) × (fault ≡ Deep)
+
+-- The same of the reader of unary expressions one level deeper.
+abbrev pub OpensInside : ℕ → ℕ → Result ℕ Fault → Type 0
+OpensInside limit levels (Ok left) = inside limit levels ≡ Some (unary limit left)
+OpensInside limit levels (Err fault) = inside limit levels ≡ None
+
+-- an expression, where so many levels are left
+abbrev pub expression_at : ℕ → ℕ → Parser Expr
+expression_at limit levels = expression limit (unary limit levels)

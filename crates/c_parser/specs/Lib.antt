@@ -1,0 +1,5 @@
+pub mod Toks
+pub mod Parser
+pub mod Expressions
+pub mod Statements
+pub mod Reads

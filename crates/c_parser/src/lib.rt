@@ -1,0 +1,15 @@
+//! Reads tokens from left to right, as expressions and as statements.
+#![tactic(auto)]
+
+mod block;
+mod cursor;
+mod expression;
+mod fault;
+mod statement;
+#[cfg(test)]
+mod tests;
+
+pub use block::braced;
+pub use cursor::{Cursor, Named, Numeral};
+pub use fault::Fault;
+pub use statement::{Braces, type_name};
