@@ -1,3 +1,10 @@
 pub mod Lists
 pub mod Rows
 pub mod Programs
+pub mod Uses
+pub mod MentionedExpressions
+pub mod MentionedStatements
+pub mod MentionedPrograms
+pub mod MentionedExamples
+pub mod Numbers
+pub mod MainFound

@@ -1,2 +1,4 @@
+pub mod Mentions
+pub mod Numbers
 pub mod Resolving
 pub mod Seen

@@ -57,8 +57,7 @@ pub fn statement(
             value,
             token,
         } => {
-            let value = part(alloc, functions, names, value)?;
-            names.declare(Declaration {
+            let own = Declaration {
                 name: *name,
                 binding: Binding {
                     token: *token,
@@ -66,7 +65,9 @@ pub fn statement(
                         unsigned: *unsigned,
                     },
                 },
-            })?;
+            };
+            let value = part(alloc, functions, names, value)?;
+            names.declare(own)?;
             Ok(c_plain::Stmt::Local {
                 variable: variable(*token, None),
                 value,
@@ -96,8 +97,8 @@ pub fn statement(
         }
         Stmt::Check { .. } => Ok(c_plain::Stmt::Check),
         Stmt::Return { value, .. } => {
-            let value = part(alloc, functions, names, value)?;
-            Ok(c_plain::Stmt::Return { value })
+            let answer = part(alloc, functions, names, value)?;
+            Ok(c_plain::Stmt::Return { value: answer })
         }
         Stmt::Break { .. } => Ok(c_plain::Stmt::Break),
         Stmt::Continue { .. } => Ok(c_plain::Stmt::Continue),

@@ -1,0 +1,5 @@
+use Rattle.c_meaning.proofs.MentionedPrograms.{names_agree}
+use Rattle.c_meaning.proofs.laws.names_are_those_of_the_scopes.Goals as goal
+
+pub returns : goal.returns
+returns c = record { same = names_agree }
