@@ -1,0 +1,15 @@
+pub mod Texts
+pub mod Unused
+pub mod Laws
+pub mod UnusedForms
+pub mod UnusedLayers
+pub mod UnusedKinds
+pub mod UnusedExpressions
+pub mod UnusedStatements
+pub mod UnusedPrograms
+pub mod UnusedSites
+pub mod UnusedStmtSites
+pub mod UnusedItems
+pub mod UnusedRules
+pub mod UnusedResolving
+pub mod LawProofs
