@@ -17,7 +17,7 @@ use Rattle.c_text.specs.Unused.{blank_parameter, blank_item, blank_items, blank}
 use Rattle.c_text.specs.UnusedItems.{item_sites-blank}
 
 -- a row splits where its image does
-record Parts {A B : Type 0} (f : A → B) (xs : List A) (ys : List B) (z : B) : Type 0 where
+record SplitsAt {A B : Type 0} (f : A → B) (xs : List A) (ys : List B) (z : B) : Type 0 where
   pub front : List A
   pub at : A
   pub back : List A
@@ -25,8 +25,8 @@ record Parts {A B : Type 0} (f : A → B) (xs : List A) (ys : List B) (z : B) : 
   pub front_is : map f front ≡ ys
   pub at_is : f at ≡ z
 
-parts_more : {A B : Type 0} {f : A → B} {xs : List A} {ys : List B} {z : B} (x : A) (y : B) → f x ≡ y → Parts f xs ys z → Parts f (x ∷ xs) (y ∷ ys) z
-parts_more {f = f} x y e rest = record {
+split_more : {A B : Type 0} {f : A → B} {xs : List A} {ys : List B} {z : B} (x : A) (y : B) → f x ≡ y → SplitsAt f xs ys z → SplitsAt f (x ∷ xs) (y ∷ ys) z
+split_more {f = f} x y e rest = record {
   front = x ∷ rest.front;
   at = rest.at;
   back = rest.back;
@@ -35,25 +35,25 @@ parts_more {f = f} x y e rest = record {
   at_is = rest.at_is;
 }
 
-parts : {A B : Type 0} (f : A → B) (xs : List A) (ys : List B) (z : B) (zs : List B) → map f xs ≡ ys ++ z ∷ zs → Parts f xs ys z
-parts f [] [] z zs e = cc
-parts f [] (y ∷ ys) z zs e = cc
-parts f (x ∷ xs) [] z zs e = record { front = []; at = x; back = xs; all = refl; front_is = refl; at_is = cc }
-parts f (x ∷ xs) (y ∷ ys) z zs e = parts_more x y (cc) (parts f xs ys z zs (cc))
+split : {A B : Type 0} (f : A → B) (xs : List A) (ys : List B) (z : B) (zs : List B) → map f xs ≡ ys ++ z ∷ zs → SplitsAt f xs ys z
+split f [] [] z zs e = cc
+split f [] (y ∷ ys) z zs e = cc
+split f (x ∷ xs) [] z zs e = record { front = []; at = x; back = xs; all = refl; front_is = refl; at_is = cc }
+split f (x ∷ xs) (y ∷ ys) z zs e = split_more x y (cc) (split f xs ys z zs (cc))
 
 -- a declaration of a program and those before it, where they have these sites
-record Has (q : Program) (before : List Item) (x : Item) : Type 0 where
+record HasLike (q : Program) (before : List Item) (x : Item) : Type 0 where
   pub front : List Item
   pub at : Item
   pub follows : Follows q front at
   pub sites : item_sites front at ≡ item_sites before x
 
 module _ (p q : Program) (e : blank p ≡ blank q) where
-  has : (before : List Item) (x : Item) → Follows p before x → Has q before x
-  has before x f =
+  like : (before : List Item) (x : Item) → Follows p before x → HasLike q before x
+  like before x f =
       let items : blank_items q.items ≡ blank_items before ++ blank_item x ∷ blank_items f.behind =
       ap (λ (r : Program). r.items) (sym e) ∙ ap blank_items f.all ∙ map-append blank_item before (x ∷ f.behind) in
-      let r = parts blank_item q.items (blank_items before) (blank_item x) (blank_items f.behind) items in
+      let r = split blank_item q.items (blank_items before) (blank_item x) (blank_items f.behind) items in
       record {
         front = r.front;
         at = r.at;
@@ -66,10 +66,10 @@ module _ (p q : Program) (e : blank p ≡ blank q) where
 
   pub violates : (at : ℕ) (rule : Rule) → Violates p at rule → Violates q at rule
   violates at rule (by_site before x front s follows stands place breaks) =
-      let r = has before x follows in
+      let r = like before x follows in
       by_site r.front r.at front s r.follows (subst (λ sites. Stands sites front s) (sym r.sites) stands) place breaks
   violates at rule (local_too_many before x front s follows stands place local full is) =
-      let r = has before x follows in
+      let r = like before x follows in
       local_too_many r.front r.at front s r.follows (subst (λ sites. Stands sites front s) (sym r.sites) stands) place local full is
 
 pub keeps_rules : (p q : Program) → blank p ≡ blank q → KeepsRules p → KeepsRules q
