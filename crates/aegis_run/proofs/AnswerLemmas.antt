@@ -1,46 +1,67 @@
 -- What answers say of sinks and of files.
 use Rattle.std.proofs.Common.{◌≡◌, ◌≢◌, inl, inr, ℕ, List, [], length, unwrap_or, Option, None, Some, refl, sym, ◌∙◌, ap, subst, arith}
 use Rattle.aegis_edge.specs.Folder.{Files, content_of}
-use Rattle.c_reader.specs.Refusals.{OneProgram}
+use Rattle.c_grammar.specs.declared.item.Program.{Program}
+use Rattle.c_meaning.specs.Resolving.{program_in}
+use Rattle.c_plain.specs.Meaning.{Meaning, mean_alone}
 use Rattle.aegis_run.specs.declared.ends.File.{File}
 use Rattle.aegis_run.specs.declared.ends.File.TheVariants.{Source, Script, Input}
-use Rattle.aegis_run.specs.declared.ends.End.{End}
 use Rattle.aegis_run.specs.declared.ends.TopEnd.{TopEnd}
-use Rattle.aegis_run.specs.declared.ends.TopEnd.TheVariants.{Run, Usage, TooLong, Token, Syntax, Typing, NotYet, NoFile, ReadFault, OutOfMemory}
-use Rattle.aegis_run.specs.Words.{RunNames}
-use Rattle.aegis_run.specs.Answer.{Sends, IsRetired, IsRead, IsAbsent, IsOverlong, PassesSource, PassesScript, IsRefused, IsSurelyRefused, HoldsScript, IsRunOf, CauseOfRun, AreTold, Releases, SourceFault, IsOrFails, RefusesScript, StartsRun}
-use Rattle.aegis_run.specs.Opening.{IsRefusal}
-use Rattle.aegis_run.proofs.SourceLemmas.{fault_passes, sure_fault, one_fault}
+use Rattle.aegis_run.specs.declared.ends.TopEnd.TheVariants.{Run, Mean, Usage, TooLong, Token, Syntax, Typing, NotYet, NoFile, ReadFault, WriteFault, OutOfMemory}
+use Rattle.aegis_run.specs.Words.{RunNames, MeanNames, Command}
+use Rattle.aegis_run.specs.Words as asks
+use Rattle.aegis_run.specs.Literals.{literals_of}
+use Rattle.c_text.specs.Texts.{IsText}
+use Rattle.aegis_run.specs.Answer.{name_for, turns_for, Sends, IsRetired, IsRead, IsAccepted, IsAbsent, IsOverlong, Lacks, Exceeds, IsReached, PassesSource, PassesScript, IsRefused, IsNotYet, IsScriptNotYet, MeansFrom, RunMeans, MeanMeans, CauseOf, AreTold, SourceFault, IsOrFails, StartsRun, TellsMeaning}
+use Rattle.aegis_run.specs.Opening.{Writes}
+use Rattle.aegis_run.proofs.SourceLemmas.{Laws, accepted_fault, one_fault, one_literals}
 
--- a refusal sends nothing
-pub Sends-refusal : (row : Option RunNames) (files : Option Files) (end : TopEnd) (written : Option (List ℕ)) → IsRefusal end → Sends row files end written written
-Sends-refusal row files (Run end) written refusal = absurd refusal
-Sends-refusal row files Usage written refusal = refl
-Sends-refusal row files (TooLong file) written refusal = refl
-Sends-refusal row files (Token error) written refusal = refl
-Sends-refusal row files (Syntax error) written refusal = refl
-Sends-refusal row files (Typing error) written refusal = refl
-Sends-refusal row files (NotYet file) written refusal = refl
-Sends-refusal row files (NoFile file) written refusal = refl
-Sends-refusal row files ReadFault written refusal = refl
-Sends-refusal row files OutOfMemory written refusal = refl
+-- an answer behind which nothing was written sends nothing
+pub Sends-unwritten : (row : Option Command) (files : Option Files) (end : TopEnd) (written : Option (List ℕ)) → (Writes end → ⊥) → Sends row files end written written
+Sends-unwritten row files (Run end) written unwritten = absurd (unwritten tt)
+Sends-unwritten row files (Mean end) written unwritten = absurd (unwritten tt)
+Sends-unwritten row files WriteFault written unwritten = absurd (unwritten tt)
+Sends-unwritten row files Usage written unwritten = refl
+Sends-unwritten row files (TooLong file) written unwritten = refl
+Sends-unwritten row files (Token error) written unwritten = refl
+Sends-unwritten row files (Syntax error) written unwritten = refl
+Sends-unwritten row files (Typing error) written unwritten = refl
+Sends-unwritten row files (NotYet file) written unwritten = refl
+Sends-unwritten row files (NoFile file) written unwritten = refl
+Sends-unwritten row files ReadFault written unwritten = refl
+Sends-unwritten row files OutOfMemory written unwritten = refl
 
--- a refusal counts no instruction
-pub IsRetired-refusal : (row : Option RunNames) (files : Option Files) (end : TopEnd) → IsRefusal end → IsRetired row files end 0
-IsRetired-refusal row files (Run end) refusal = absurd refusal
-IsRetired-refusal row files Usage refusal = tt
-IsRetired-refusal row files (TooLong file) refusal = tt
-IsRetired-refusal row files (Token error) refusal = tt
-IsRetired-refusal row files (Syntax error) refusal = tt
-IsRetired-refusal row files (Typing error) refusal = tt
-IsRetired-refusal row files (NotYet file) refusal = tt
-IsRetired-refusal row files (NoFile file) refusal = tt
-IsRetired-refusal row files ReadFault refusal = tt
-IsRetired-refusal row files OutOfMemory refusal = tt
+-- and counts no instruction
+pub IsRetired-unwritten : (row : Option Command) (files : Option Files) (end : TopEnd) → (Writes end → ⊥) → IsRetired row files end 0
+IsRetired-unwritten row files (Run end) unwritten = absurd (unwritten tt)
+IsRetired-unwritten row files (Mean end) unwritten = tt
+IsRetired-unwritten row files WriteFault unwritten = tt
+IsRetired-unwritten row files Usage unwritten = tt
+IsRetired-unwritten row files (TooLong file) unwritten = tt
+IsRetired-unwritten row files (Token error) unwritten = tt
+IsRetired-unwritten row files (Syntax error) unwritten = tt
+IsRetired-unwritten row files (Typing error) unwritten = tt
+IsRetired-unwritten row files (NotYet file) unwritten = tt
+IsRetired-unwritten row files (NoFile file) unwritten = tt
+IsRetired-unwritten row files ReadFault unwritten = tt
+IsRetired-unwritten row files OutOfMemory unwritten = tt
 
--- a refusal is no run
-pub no_run : (end : TopEnd) (how : End) → IsRefusal end → end ≡ Run how → ⊥
-no_run end how refusal same = subst IsRefusal same refusal
+-- where nothing was written, nothing was sent
+pub sends_nothing : (row : Option Command) (files : Option Files) (end : TopEnd) (old new : Option (List ℕ)) → (Writes end → ⊥) → Sends row files end old new → new ≡ old
+sends_nothing row files (Run end) old new unwritten sends = absurd (unwritten tt)
+sends_nothing row files (Mean end) old new unwritten sends = absurd (unwritten tt)
+sends_nothing row files WriteFault old new unwritten sends = absurd (unwritten tt)
+sends_nothing row files Usage old new unwritten sends = sends
+sends_nothing row files (TooLong file) old new unwritten sends = sends
+sends_nothing row files (Token error) old new unwritten sends = sends
+sends_nothing row files (Syntax error) old new unwritten sends = sends
+sends_nothing row files (Typing error) old new unwritten sends = sends
+sends_nothing row files (NotYet file) old new unwritten sends = sends
+sends_nothing row files (NoFile file) old new unwritten sends = sends
+sends_nothing row files ReadFault old new unwritten sends = sends
+sends_nothing row files OutOfMemory old new unwritten sends = sends
+
+-- ---- files are read once
 
 -- a file that was read is not absent
 read_absent : (files : Files) (name text : List ℕ) (file : File) (before now : ℕ) → IsRead (Some files) name file text → IsAbsent (Some files) name before now → ⊥
@@ -57,102 +78,260 @@ read_overlong files name text file before now read overlong =
 read_once : (files : Files) (name first second : List ℕ) (file : File) → IsRead (Some files) name file first → IsRead (Some files) name file second → first ≡ second
 read_once files name first second file one two = let same : Some first ≡ Some second = sym one.whole ∙ two.whole in cc
 
--- a source that passes was not refused
-refused_passes : OneProgram → (files : Files) (names : RunNames) (end : TopEnd) → IsRefused (Some files) names end → PassesSource (Some files) names → ⊥
-refused_passes one files names end refused passes =
-    let same : passes.text ≡ refused.text = read_once files names.source passes.text refused.text Source passes.read refused.read in
-    let P : List ℕ → Type 0 = λ text. Releases text passes.literals in
-    fault_passes one refused.text passes.literals end refused.fault (subst P same passes.releases)
-
--- a source that passes was not refused, whatever stands in the unused bytes of names
-surely_passes : OneProgram → (files : Files) (names : RunNames) (end : TopEnd) → IsSurelyRefused (Some files) names end → PassesSource (Some files) names → ⊥
-surely_passes one files names end refused passes =
-    refused_passes one files names end (record { text = refused.text; read = refused.read; fault = sure_fault refused.text end refused.fault }) passes
+-- an accepted source was not refused
+refused_accepted : Laws → (files : Files) (command : Command) (end : TopEnd) (p : Program) → IsRefused (Some files) command end → IsAccepted (Some files) (name_for command Source) p → ⊥
+refused_accepted laws files command end p refused accepted =
+    let same : refused.text ≡ accepted.text = read_once files (name_for command Source) refused.text accepted.text Source refused.read accepted.read in
+    let P : List ℕ → Type 0 = λ text. SourceFault text end in
+    accepted_fault laws accepted.text p end accepted.is_text accepted.typed (subst P same refused.fault)
 
 -- a source is refused in one way
-refused_once : (files : Files) (names : RunNames) (a b : TopEnd) → IsRefused (Some files) names a → IsSurelyRefused (Some files) names b → a ≡ b
-refused_once files names a b first second =
-    let same : first.text ≡ second.text = read_once files names.source first.text second.text Source first.read second.read in
+refused_once : Laws → (files : Files) (command : Command) (a b : TopEnd) → IsRefused (Some files) command a → IsRefused (Some files) command b → a ≡ b
+refused_once laws files command a b first second =
+    let same : first.text ≡ second.text = read_once files (name_for command Source) first.text second.text Source first.read second.read in
     let P : List ℕ → Type 0 = λ text. SourceFault text a in
-    one_fault second.text a b (subst P same first.fault) second.fault
+    one_fault laws second.text a b (subst P same first.fault) second.fault
+
+-- accepted sources of one name are the same text
+accepted_text : (files : Files) (name : List ℕ) (p q : Program) (one : IsAccepted (Some files) name p) (two : IsAccepted (Some files) name q) → IsText two.text p
+accepted_text files name p q one two =
+    let P : List ℕ → Type 0 = λ text. IsText text p in
+    subst P (read_once files name one.text two.text Source one.read two.read) one.is_text
+
+-- they release the same literals, and mean the same
+literals_once : Laws → (files : Files) (name : List ℕ) (p q : Program) → IsAccepted (Some files) name p → IsAccepted (Some files) name q → literals_of p ≡ literals_of q
+literals_once laws files name p q one two = one_literals laws.one two.text p q (accepted_text files name p q one two) two.is_text
+
+meaning_once : Laws → (files : Files) (command : Command) (m n : Meaning) → MeansFrom (Some files) command m → MeansFrom (Some files) command n → m ≡ n
+meaning_once laws files command m n one two =
+    let text = accepted_text files (name_for command Source) one.program two.program one.accepted two.accepted in
+    let same : program_in one.program ≡ program_in two.program = laws.resolved two.accepted.text one.program two.program text two.accepted.is_text in
+    let input : one.input ≡ two.input = read_once files (name_for command Input) one.input two.input Input one.input_read two.input_read in
+    sym one.meaning_is ∙ ap (λ program. mean_alone program one.input (turns_for command)) same
+    ∙ ap (λ input. mean_alone (program_in two.program) input (turns_for command)) input ∙ two.meaning_is
+
+-- ---- what comes first
+
+-- behind the source a file is opened only where the source passed
+reached_passes : (files : Option Files) (command : Command) (file : File) → file ≢ Source → IsReached files command file → PassesSource files command
+reached_passes files command Source other reached = absurd (other refl)
+reached_passes files (asks.Run names) Script other reached = reached
+reached_passes files (asks.Mean names) Script other reached = absurd reached
+reached_passes files (asks.Run names) Input other reached = reached.0
+reached_passes files (asks.Mean names) Input other reached = reached.0
+
+-- where a source that was read does not pass, no file is missing
+lacks_source : (files : Files) (command : Command) (file : File) (text : List ℕ) (before now : ℕ) → IsRead (Some files) (name_for command Source) Source text → (PassesSource (Some files) command → ⊥) → Lacks command (Some files) file before now → ⊥
+lacks_source files command Source text before now read stops lacks = read_absent files (name_for command Source) text Source before now read lacks.1
+lacks_source files command Script text before now read stops lacks = stops (reached_passes (Some files) command Script (λ same. cc) lacks.0)
+lacks_source files command Input text before now read stops lacks = stops (reached_passes (Some files) command Input (λ same. cc) lacks.0)
+
+-- and none is too long
+exceeds_source : (files : Files) (command : Command) (file : File) (text : List ℕ) (before now : ℕ) → IsRead (Some files) (name_for command Source) Source text → (PassesSource (Some files) command → ⊥) → Exceeds command (Some files) file before now → ⊥
+exceeds_source files command Source text before now read stops exceeds = read_overlong files (name_for command Source) text Source before now read exceeds.1
+exceeds_source files command Script text before now read stops exceeds = stops (reached_passes (Some files) command Script (λ same. cc) exceeds.0)
+exceeds_source files command Input text before now read stops exceeds = stops (reached_passes (Some files) command Input (λ same. cc) exceeds.0)
+
+-- what means something passed
+means_passes : (files : Option Files) (command : Command) (m : Meaning) → MeansFrom files command m → PassesSource files command
+means_passes files command m means = (means.program, means.accepted, means.suits)
+
+run_from : (files : Option Files) (command : Command) (m : Meaning) → RunMeans files command m → MeansFrom files command m
+run_from files (asks.Run names) m means = means
+run_from files (asks.Mean names) m means = absurd means
+
+mean_from : (files : Option Files) (command : Command) (m : Meaning) → MeanMeans files command m → MeansFrom files command m
+mean_from files (asks.Run names) m means = absurd means
+mean_from files (asks.Mean names) m means = means
+
+-- a command is one of the two
+run_mean : (files : Option Files) (command : Command) (m n : Meaning) → RunMeans files command m → MeanMeans files command n → ⊥
+run_mean files (asks.Run names) m n one two = two
+run_mean files (asks.Mean names) m n one two = one
+
+mean_passes : (files : Option Files) (command : Command) (m : Meaning) → MeanMeans files command m → PassesSource files command
+mean_passes files command m means = means_passes files command m (mean_from files command m means)
+
+run_passes : (files : Option Files) (command : Command) (m : Meaning) → RunMeans files command m → PassesSource files command
+run_passes files command m means = means_passes files command m (run_from files command m means)
+
+-- a source that is not run yet does not pass
+not_yet_passes : Laws → (files : Files) (command : Command) → IsNotYet (Some files) command → PassesSource (Some files) command → ⊥
+not_yet_passes laws files (asks.Mean names) not_yet passes = not_yet
+not_yet_passes laws files (asks.Run names) not_yet passes =
+    let suits : (literals : List ℕ) × (literals_of passes.0 ≡ Some literals) = passes.2 in
+    let both : Some suits.0 ≡ None = sym suits.1 ∙ literals_once laws files names.source passes.0 not_yet.0 passes.1 not_yet.1 ∙ not_yet.2 in cc
+
+-- a source that is not run yet was read, and not refused
+not_yet_refused : Laws → (files : Files) (command : Command) (end : TopEnd) → IsNotYet (Some files) command → IsRefused (Some files) command end → ⊥
+not_yet_refused laws files (asks.Mean names) end not_yet refused = not_yet
+not_yet_refused laws files (asks.Run names) end not_yet refused = refused_accepted laws files (asks.Run names) end not_yet.0 refused not_yet.1
+
+script_passes : (files : Option Files) (command : Command) → IsScriptNotYet files command → PassesSource files command
+script_passes files (asks.Run names) holds = holds.reached
+script_passes files (asks.Mean names) holds = absurd holds
 
 -- a script that passes holds no byte
-holds_passes : (files : Files) (names : RunNames) → HoldsScript (Some files) names → PassesScript (Some files) names → ⊥
-holds_passes files names holds passes = holds.some (read_once files names.script holds.text [] Script holds.read passes)
+holds_passes : (files : Files) (command : Command) → IsScriptNotYet (Some files) command → PassesScript (Some files) command → ⊥
+holds_passes files (asks.Run names) holds passes = holds.some (read_once files names.script holds.text [] Script holds.read passes)
+holds_passes files (asks.Mean names) holds passes = holds
 
--- what a run passed
-passes_run : (files : Option Files) (names : RunNames) (literals : List ℕ) → IsRunOf files names literals → PassesSource files names
-passes_run files names literals run = record { text = run.source; read = run.source_read; literals = literals; releases = run.releases }
+-- ---- where a source is refused, no other answer has a cause
 
--- where a source is refused, no other answer has a cause
-pub refuses_source : OneProgram → (files : Option Files) (names : RunNames) (before now : ℕ) (expected end : TopEnd) → AreTold files → IsSurelyRefused files names expected → CauseOfRun names files before now end → IsOrFails expected end
-refuses_source one None names before now expected end told refused cause = absurd told
-refuses_source one (Some files) names before now expected Usage told refused cause = absurd cause
-refuses_source one (Some files) names before now expected (NoFile Source) told refused cause = absurd (read_absent files names.source refused.text Source before now refused.read cause.1)
-refuses_source one (Some files) names before now expected (NoFile Script) told refused cause = absurd (surely_passes one files names expected refused cause.0)
-refuses_source one (Some files) names before now expected (NoFile Input) told refused cause = absurd (surely_passes one files names expected refused cause.0.0)
-refuses_source one (Some files) names before now expected (TooLong Source) told refused cause = absurd (read_overlong files names.source refused.text Source before now refused.read cause.1)
-refuses_source one (Some files) names before now expected (TooLong Script) told refused cause = absurd (surely_passes one files names expected refused cause.0)
-refuses_source one (Some files) names before now expected (TooLong Input) told refused cause = absurd (surely_passes one files names expected refused cause.0.0)
-refuses_source one (Some files) names before now expected (Token error) told refused cause = inl (refused_once files names (Token error) expected cause refused)
-refuses_source one (Some files) names before now expected (Syntax error) told refused cause = inl (refused_once files names (Syntax error) expected cause refused)
-refuses_source one (Some files) names before now expected (Typing error) told refused cause = inl (refused_once files names (Typing error) expected cause refused)
-refuses_source one (Some files) names before now expected (NotYet Source) told refused cause = inl (refused_once files names (NotYet Source) expected cause refused)
-refuses_source one (Some files) names before now expected (NotYet Script) told refused cause = absurd (surely_passes one files names expected refused cause.reached)
-refuses_source one (Some files) names before now expected (NotYet Input) told refused cause = absurd cause
-refuses_source one (Some files) names before now expected ReadFault told refused cause = inr tt
-refuses_source one (Some files) names before now expected OutOfMemory told refused cause = inr tt
-refuses_source one (Some files) names before now expected (Run how) told refused cause = absurd (surely_passes one files names expected refused (passes_run (Some files) names cause.0 cause.1))
+pub refuses_source : Laws → (files : Option Files) (command : Command) (before now : ℕ) (expected end : TopEnd) → AreTold files → IsRefused files command expected → CauseOf command files before now end → IsOrFails expected end
+refuses_source laws None command before now expected end told refused cause = absurd told
+refuses_source laws (Some files) command before now expected end told refused cause = go end cause
+  where
+    stops : PassesSource (Some files) command → ⊥
+    stops passes = refused_accepted laws files command expected passes.0 refused passes.1
 
--- where a script holds a byte, no other answer has a cause
-pub refuses_script : OneProgram → (files : Option Files) (names : RunNames) (before now : ℕ) (end : TopEnd) → AreTold files → HoldsScript files names → CauseOfRun names files before now end → RefusesScript end
-refuses_script one None names before now end told holds cause = absurd told
-refuses_script one (Some files) names before now Usage told holds cause = cause
-refuses_script one (Some files) names before now (NoFile Source) told holds cause = absurd (read_absent files names.source holds.reached.text Source before now holds.reached.read cause.1)
-refuses_script one (Some files) names before now (NoFile Script) told holds cause = absurd (read_absent files names.script holds.text Script before now holds.read cause.1)
-refuses_script one (Some files) names before now (NoFile Input) told holds cause = absurd (holds_passes files names holds cause.0.1)
-refuses_script one (Some files) names before now (TooLong Source) told holds cause = absurd (read_overlong files names.source holds.reached.text Source before now holds.reached.read cause.1)
-refuses_script one (Some files) names before now (TooLong Script) told holds cause = absurd (read_overlong files names.script holds.text Script before now holds.read cause.1)
-refuses_script one (Some files) names before now (TooLong Input) told holds cause = absurd (holds_passes files names holds cause.0.1)
-refuses_script one (Some files) names before now (Token error) told holds cause = absurd (refused_passes one files names (Token error) cause holds.reached)
-refuses_script one (Some files) names before now (Syntax error) told holds cause = absurd (refused_passes one files names (Syntax error) cause holds.reached)
-refuses_script one (Some files) names before now (Typing error) told holds cause = absurd (refused_passes one files names (Typing error) cause holds.reached)
-refuses_script one (Some files) names before now (NotYet Source) told holds cause = absurd (refused_passes one files names (NotYet Source) cause holds.reached)
-refuses_script one (Some files) names before now (NotYet Script) told holds cause = tt
-refuses_script one (Some files) names before now (NotYet Input) told holds cause = absurd cause
-refuses_script one (Some files) names before now ReadFault told holds cause = tt
-refuses_script one (Some files) names before now OutOfMemory told holds cause = tt
-refuses_script one (Some files) names before now (Run how) told holds cause = absurd (holds_passes files names holds cause.1.script_read)
+    go : (end : TopEnd) → CauseOf command (Some files) before now end → IsOrFails expected end
+    go Usage cause = absurd cause
+    go (NoFile file) cause = absurd (lacks_source files command file refused.text before now refused.read stops cause)
+    go (TooLong file) cause = absurd (exceeds_source files command file refused.text before now refused.read stops cause)
+    go (Token error) cause = inl (refused_once laws files command (Token error) expected cause refused)
+    go (Syntax error) cause = inl (refused_once laws files command (Syntax error) expected cause refused)
+    go (Typing error) cause = inl (refused_once laws files command (Typing error) expected cause refused)
+    go (NotYet Source) cause = absurd (not_yet_refused laws files command expected cause refused)
+    go (NotYet Script) cause = absurd (stops (script_passes (Some files) command cause))
+    go (NotYet Input) cause = absurd cause
+    go ReadFault cause = inr tt
+    go OutOfMemory cause = inr tt
+    go WriteFault cause = absurd (stops (mean_passes (Some files) command cause.0 cause.1))
+    go (Run how) cause = absurd (stops (run_passes (Some files) command cause.0 cause.1))
+    go (Mean how) cause = absurd (stops (mean_passes (Some files) command cause.0 cause.1))
 
--- where the files allow a run, no refusal has a cause
-pub starts_run : OneProgram → (files : Option Files) (names : RunNames) (literals : List ℕ) (before now : ℕ) (end : TopEnd) → AreTold files → IsRunOf files names literals → CauseOfRun names files before now end → StartsRun end
-starts_run one None names literals before now end told run cause = absurd told
-starts_run one (Some files) names literals before now Usage told run cause = cause
-starts_run one (Some files) names literals before now (NoFile Source) told run cause = absurd (read_absent files names.source run.source Source before now run.source_read cause.1)
-starts_run one (Some files) names literals before now (NoFile Script) told run cause = absurd (read_absent files names.script [] Script before now run.script_read cause.1)
-starts_run one (Some files) names literals before now (NoFile Input) told run cause = absurd (read_absent files names.input run.input Input before now run.input_read cause.1)
-starts_run one (Some files) names literals before now (TooLong Source) told run cause = absurd (read_overlong files names.source run.source Source before now run.source_read cause.1)
-starts_run one (Some files) names literals before now (TooLong Script) told run cause = absurd (read_overlong files names.script [] Script before now run.script_read cause.1)
-starts_run one (Some files) names literals before now (TooLong Input) told run cause = absurd (read_overlong files names.input run.input Input before now run.input_read cause.1)
-starts_run one (Some files) names literals before now (Token error) told run cause = absurd (refused_passes one files names (Token error) cause (passes_run (Some files) names literals run))
-starts_run one (Some files) names literals before now (Syntax error) told run cause = absurd (refused_passes one files names (Syntax error) cause (passes_run (Some files) names literals run))
-starts_run one (Some files) names literals before now (Typing error) told run cause = absurd (refused_passes one files names (Typing error) cause (passes_run (Some files) names literals run))
-starts_run one (Some files) names literals before now (NotYet Source) told run cause = absurd (refused_passes one files names (NotYet Source) cause (passes_run (Some files) names literals run))
-starts_run one (Some files) names literals before now (NotYet Script) told run cause = absurd (holds_passes files names cause run.script_read)
-starts_run one (Some files) names literals before now (NotYet Input) told run cause = absurd cause
-starts_run one (Some files) names literals before now ReadFault told run cause = tt
-starts_run one (Some files) names literals before now OutOfMemory told run cause = tt
-starts_run one (Some files) names literals before now (Run how) told run cause = tt
+-- ---- where a source is not run yet, no other answer has a cause
 
--- an answer that is no run sent nothing
-pub sends_nothing : (row : Option RunNames) (files : Option Files) (end : TopEnd) (old new : Option (List ℕ)) → ((how : End) → end ≢ Run how) → Sends row files end old new → new ≡ old
-sends_nothing row files (Run how) old new none sends = absurd (none how refl)
-sends_nothing row files Usage old new none sends = sends
-sends_nothing row files (TooLong file) old new none sends = sends
-sends_nothing row files (Token error) old new none sends = sends
-sends_nothing row files (Syntax error) old new none sends = sends
-sends_nothing row files (Typing error) old new none sends = sends
-sends_nothing row files (NotYet file) old new none sends = sends
-sends_nothing row files (NoFile file) old new none sends = sends
-sends_nothing row files ReadFault old new none sends = sends
-sends_nothing row files OutOfMemory old new none sends = sends
+pub not_yet : Laws → (files : Option Files) (command : Command) (before now : ℕ) (end : TopEnd) → AreTold files → IsNotYet files command → CauseOf command files before now end → IsOrFails (NotYet Source) end
+not_yet laws None command before now end told source cause = absurd told
+not_yet laws (Some files) (asks.Mean names) before now end told source cause = absurd source
+not_yet laws (Some files) (asks.Run names) before now end told source cause = go end cause
+  where
+    stops : PassesSource (Some files) (asks.Run names) → ⊥
+    stops passes = not_yet_passes laws files (asks.Run names) source passes
+
+    go : (end : TopEnd) → CauseOf (asks.Run names) (Some files) before now end → IsOrFails (NotYet Source) end
+    go Usage cause = absurd cause
+    go (NoFile file) cause = absurd (lacks_source files (asks.Run names) file source.1.text before now source.1.read stops cause)
+    go (TooLong file) cause = absurd (exceeds_source files (asks.Run names) file source.1.text before now source.1.read stops cause)
+    go (Token error) cause = absurd (refused_accepted laws files (asks.Run names) (Token error) source.0 cause source.1)
+    go (Syntax error) cause = absurd (refused_accepted laws files (asks.Run names) (Syntax error) source.0 cause source.1)
+    go (Typing error) cause = absurd (refused_accepted laws files (asks.Run names) (Typing error) source.0 cause source.1)
+    go (NotYet Source) cause = inl refl
+    go (NotYet Script) cause = absurd (stops (script_passes (Some files) (asks.Run names) cause))
+    go (NotYet Input) cause = absurd cause
+    go ReadFault cause = inr tt
+    go OutOfMemory cause = inr tt
+    go WriteFault cause = absurd (stops (mean_passes (Some files) (asks.Run names) cause.0 cause.1))
+    go (Run how) cause = absurd (stops (run_passes (Some files) (asks.Run names) cause.0 cause.1))
+    go (Mean how) cause = absurd (stops (mean_passes (Some files) (asks.Run names) cause.0 cause.1))
+
+-- ---- where the source passes, only a later file or the run itself decides
+
+-- an accepted source was refused in no way
+passes_refused : Laws → (files : Files) (command : Command) (end : TopEnd) → PassesSource (Some files) command → IsRefused (Some files) command end → ⊥
+passes_refused laws files command end passes refused = refused_accepted laws files command end passes.0 refused passes.1
+
+pub script_not_yet : Laws → (files : Option Files) (command : Command) (before now : ℕ) (end : TopEnd) → AreTold files → IsScriptNotYet files command → CauseOf command files before now end → IsOrFails (NotYet Script) end
+script_not_yet laws None command before now end told holds cause = absurd told
+script_not_yet laws (Some files) (asks.Mean names) before now end told holds cause = absurd holds
+script_not_yet laws (Some files) (asks.Run names) before now end told holds cause = go end cause
+  where
+    passes : PassesSource (Some files) (asks.Run names)
+    passes = holds.reached
+
+    stops : PassesScript (Some files) (asks.Run names) → ⊥
+    stops empty = holds_passes files (asks.Run names) holds empty
+
+    go : (end : TopEnd) → CauseOf (asks.Run names) (Some files) before now end → IsOrFails (NotYet Script) end
+    go Usage cause = absurd cause
+    go (NoFile Source) cause = absurd (read_absent files names.source passes.1.text Source before now passes.1.read cause.1)
+    go (NoFile Script) cause = absurd (read_absent files names.script holds.text Script before now holds.read cause.1)
+    go (NoFile Input) cause = absurd (stops cause.0.1)
+    go (TooLong Source) cause = absurd (read_overlong files names.source passes.1.text Source before now passes.1.read cause.1)
+    go (TooLong Script) cause = absurd (read_overlong files names.script holds.text Script before now holds.read cause.1)
+    go (TooLong Input) cause = absurd (stops cause.0.1)
+    go (Token error) cause = absurd (passes_refused laws files (asks.Run names) (Token error) passes cause)
+    go (Syntax error) cause = absurd (passes_refused laws files (asks.Run names) (Syntax error) passes cause)
+    go (Typing error) cause = absurd (passes_refused laws files (asks.Run names) (Typing error) passes cause)
+    go (NotYet Source) cause = absurd (not_yet_passes laws files (asks.Run names) cause passes)
+    go (NotYet Script) cause = inl refl
+    go (NotYet Input) cause = absurd cause
+    go ReadFault cause = inr tt
+    go OutOfMemory cause = inr tt
+    go WriteFault cause = absurd cause.1
+    go (Run how) cause = absurd (stops cause.1.script_read)
+    go (Mean how) cause = absurd cause.1
+
+-- where all files were read, none is missing
+lacks_means : (files : Files) (command : Command) (file : File) (m : Meaning) (before now : ℕ) → MeansFrom (Some files) command m → Lacks command (Some files) file before now → ⊥
+lacks_means files command Source m before now means lacks = read_absent files (name_for command Source) means.accepted.text Source before now means.accepted.read lacks.1
+lacks_means files (asks.Run names) Script m before now means lacks = read_absent files names.script [] Script before now means.script_read lacks.1
+lacks_means files (asks.Mean names) Script m before now means lacks = lacks.0
+lacks_means files command Input m before now means lacks = read_absent files (name_for command Input) means.input Input before now means.input_read lacks.1
+
+-- and none is too long
+exceeds_means : (files : Files) (command : Command) (file : File) (m : Meaning) (before now : ℕ) → MeansFrom (Some files) command m → Exceeds command (Some files) file before now → ⊥
+exceeds_means files command Source m before now means exceeds = read_overlong files (name_for command Source) means.accepted.text Source before now means.accepted.read exceeds.1
+exceeds_means files (asks.Run names) Script m before now means exceeds = read_overlong files names.script [] Script before now means.script_read exceeds.1
+exceeds_means files (asks.Mean names) Script m before now means exceeds = exceeds.0
+exceeds_means files command Input m before now means exceeds = read_overlong files (name_for command Input) means.input Input before now means.input_read exceeds.1
+
+-- a script that was passed is not one that asks for what is not built
+means_script : (files : Files) (command : Command) (m : Meaning) → MeansFrom (Some files) command m → IsScriptNotYet (Some files) command → ⊥
+means_script files command m means holds = holds_passes files command holds means.script_read
+
+pub starts_run : Laws → (files : Option Files) (command : Command) (m : Meaning) (before now : ℕ) (end : TopEnd) → AreTold files → RunMeans files command m → CauseOf command files before now end → StartsRun end
+starts_run laws None command m before now end told means cause = absurd told
+starts_run laws (Some files) command m before now end told means cause = go end cause
+  where
+    from : MeansFrom (Some files) command m
+    from = run_from (Some files) command m means
+
+    passes : PassesSource (Some files) command
+    passes = means_passes (Some files) command m from
+
+    go : (end : TopEnd) → CauseOf command (Some files) before now end → StartsRun end
+    go Usage cause = cause
+    go (NoFile file) cause = absurd (lacks_means files command file m before now from cause)
+    go (TooLong file) cause = absurd (exceeds_means files command file m before now from cause)
+    go (Token error) cause = absurd (passes_refused laws files command (Token error) passes cause)
+    go (Syntax error) cause = absurd (passes_refused laws files command (Syntax error) passes cause)
+    go (Typing error) cause = absurd (passes_refused laws files command (Typing error) passes cause)
+    go (NotYet Source) cause = absurd (not_yet_passes laws files command cause passes)
+    go (NotYet Script) cause = absurd (means_script files command m from cause)
+    go (NotYet Input) cause = absurd cause
+    go ReadFault cause = tt
+    go OutOfMemory cause = tt
+    go WriteFault cause = absurd (run_mean (Some files) command m cause.0 means cause.1)
+    go (Run how) cause = tt
+    go (Mean how) cause = absurd (run_mean (Some files) command m cause.0 means cause.1)
+
+pub tells_meaning : Laws → (files : Option Files) (command : Command) (m : Meaning) (before now : ℕ) (end : TopEnd) → AreTold files → MeanMeans files command m → CauseOf command files before now end → TellsMeaning m.end end
+tells_meaning laws None command m before now end told means cause = absurd told
+tells_meaning laws (Some files) command m before now end told means cause = go end cause
+  where
+    from : MeansFrom (Some files) command m
+    from = mean_from (Some files) command m means
+
+    passes : PassesSource (Some files) command
+    passes = means_passes (Some files) command m from
+
+    go : (end : TopEnd) → CauseOf command (Some files) before now end → TellsMeaning m.end end
+    go Usage cause = cause
+    go (NoFile file) cause = absurd (lacks_means files command file m before now from cause)
+    go (TooLong file) cause = absurd (exceeds_means files command file m before now from cause)
+    go (Token error) cause = absurd (passes_refused laws files command (Token error) passes cause)
+    go (Syntax error) cause = absurd (passes_refused laws files command (Syntax error) passes cause)
+    go (Typing error) cause = absurd (passes_refused laws files command (Typing error) passes cause)
+    go (NotYet Source) cause = absurd (not_yet_passes laws files command cause passes)
+    go (NotYet Script) cause = absurd (means_script files command m from cause)
+    go (NotYet Input) cause = absurd cause
+    go ReadFault cause = tt
+    go OutOfMemory cause = tt
+    go WriteFault cause = tt
+    go (Run how) cause = absurd (run_mean (Some files) command cause.0 m cause.1 means)
+    go (Mean how) cause =
+        let same : cause.0 ≡ m = meaning_once laws files command cause.0 m (mean_from (Some files) command cause.0 cause.1) from in
+        cause.2 ∙ ap (λ meaning. meaning.end) same

@@ -19,7 +19,7 @@ use Rattle.orbis_core.specs.Words.{words_in}
 use Rattle.orbis_core.proofs.ProcessorLemmas.{register-with_register, register-with_register-other}
 use Rattle.std.specs.Int.Bits.{or_zero_l}
 use Rattle.aegis_num.specs.declared.limits.TheConstants.{MAX_SOURCE_BYTES}
-use Rattle.aegis_run.specs.Answer.{released}
+use Rattle.aegis_run.specs.Literals.{released}
 use Rattle.aegis_run.specs.Code.{CodeRunsTo, Fetches, HoldsCode, code_of, program_of, reset, straight_core, words_left, RunsTo}
 
 -- each word fits 32 bits

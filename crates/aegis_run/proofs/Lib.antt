@@ -1,9 +1,11 @@
 pub mod AnswerLemmas
 pub mod CodeLemmas
 pub mod Examples
-pub mod MachineLemmas
-pub mod WordLemmas
-pub mod SourceLemmas
-pub mod LiteralLemmas
 pub mod LengthLemmas
+pub mod LiteralLemmas
+pub mod MachineLemmas
+pub mod MeaningLemmas
+pub mod OpeningLemmas
+pub mod SourceLemmas
 pub mod TypingLemmas
+pub mod WordLemmas

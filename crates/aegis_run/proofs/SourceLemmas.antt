@@ -1,4 +1,4 @@
--- A text has one answer: it is run, or it is not, in one way.
+-- A text has one answer: it is a program that keeps the typing rules, or it is refused in one way.
 use Rattle.std.proofs.Common.{◌≡◌, ◌≢◌, ℕ, List, [], ◌∷◌, length, map, Option, None, Some, Ok, Err, refl, sym, ◌∙◌, ap, subst}
 use Rattle.std.specs.Prelude.{is_some, if◌then◌else◌}
 use Rattle.c_grammar.specs.declared.item.Parameter.{Parameter}
@@ -20,17 +20,17 @@ use Rattle.c_grammar.specs.AlikePlaces.{same_expected, same_deep, same_shallow}
 use Rattle.c_grammar.specs.PlaceLaws.{reads-expected, reads-deep, expected-one, deep-one, expected-deep}
 use Rattle.c_types.specs.declared.error.TypeError.{TypeError}
 use Rattle.c_types.specs.declared.error.TypeError.TheVariants as type
-use Rattle.c_types.specs.Checked.{IsTyped, IsRefused}
-use Rattle.aegis_run.proofs.TypingLemmas.{literals_typed, typed_refused, one_type_error}
+use Rattle.c_types.specs.Checked.{IsTyped}
+use Rattle.aegis_run.proofs.TypingLemmas.{typed_refused, one_type_error}
 use Rattle.c_reader.specs.declared.error.SyntaxError.{SyntaxError}
 use Rattle.c_reader.specs.declared.error.SyntaxError.TheVariants as syntax
 use Rattle.c_reader.specs.Refusals.{IsRefusedAs, OneProgram}
-use Rattle.aegis_run.specs.declared.ends.File.TheVariants.{Source, Script, Input}
 use Rattle.aegis_run.specs.declared.ends.TopEnd.{TopEnd}
-use Rattle.aegis_run.specs.declared.ends.TopEnd.TheVariants.{Run, Usage, TooLong, Token as TokenEnd, Syntax, Typing, NotYet, NoFile, ReadFault, OutOfMemory}
+use Rattle.aegis_run.specs.declared.ends.TopEnd.TheVariants.{Run, Mean, Usage, TooLong, Token as TokenEnd, Syntax, Typing, NotYet, NoFile, ReadFault, WriteFault, OutOfMemory}
 use Rattle.aegis_run.specs.Literals.{number_in, released_by, returns_literal, in_front, body_literals, is_nothing, item_literals, items_literals, literals_of}
-use Rattle.aegis_run.specs.SourceText.{HasTokens, kinds_in, IsText, IsAlways, HasTokenFault, HasSyntaxFault, HasTypeFault}
-use Rattle.aegis_run.specs.Answer.{Releases, SourceFault, SureFault}
+use Rattle.c_text.specs.Texts.{HasTokens, kinds_in, IsText, HasTokenFault, HasSyntaxFault, HasTypeFault}
+use Rattle.c_text.specs.Laws.{RefusedAlike, ResolvedAlike}
+use Rattle.aegis_run.specs.Answer.{SourceFault}
 
 -- ---- programs that differ in token numbers alone release the same literals
 
@@ -193,69 +193,28 @@ type_fault text (type.TooLong at) fault = fault
 type_fault text (type.TooMany at) fault = fault
 type_fault text type.NoMain fault = fault
 
-always_type : (text : List ℕ) (error : TypeError) → SureFault text (Typing error) → IsAlways text (λ program. IsRefused program error)
-always_type text type.OutOfMemory fault = absurd fault
-always_type text (type.Unknown at) fault = fault
-always_type text (type.Twice at) fault = fault
-always_type text (type.Recursive at) fault = fault
-always_type text (type.Class at) fault = fault
-always_type text (type.Shape at) fault = fault
-always_type text (type.Arity at) fault = fault
-always_type text (type.TooLong at) fault = fault
-always_type text (type.TooMany at) fault = fault
-always_type text type.NoMain fault = fault
+-- what is known of two programs of one text
+pub record Laws : Type 0 where
+  pub one : OneProgram
+  pub refused : RefusedAlike
+  pub resolved : ResolvedAlike
 
-held : (text : List ℕ) (error : TypeError) → IsAlways text (λ program. IsRefused program error) → HasTypeFault text error
-held text error fault = record { program = fault.program; is_text = fault.is_text; refused = fault.always fault.program fault.is_text }
-
-sure_type : (text : List ℕ) (error : TypeError) → SureFault text (Typing error) → SourceFault text (Typing error)
-sure_type text type.OutOfMemory fault = absurd fault
-sure_type text (type.Unknown at) fault = held text (type.Unknown at) fault
-sure_type text (type.Twice at) fault = held text (type.Twice at) fault
-sure_type text (type.Recursive at) fault = held text (type.Recursive at) fault
-sure_type text (type.Class at) fault = held text (type.Class at) fault
-sure_type text (type.Shape at) fault = held text (type.Shape at) fault
-sure_type text (type.Arity at) fault = held text (type.Arity at) fault
-sure_type text (type.TooLong at) fault = held text (type.TooLong at) fault
-sure_type text (type.TooMany at) fault = held text (type.TooMany at) fault
-sure_type text type.NoMain fault = held text type.NoMain fault
-
--- a sure fault is one
-pub sure_fault : (text : List ℕ) (end : TopEnd) → SureFault text end → SourceFault text end
-sure_fault text (Run end) fault = fault
-sure_fault text Usage fault = fault
-sure_fault text (TooLong file) fault = fault
-sure_fault text (TokenEnd error) fault = fault
-sure_fault text (Syntax error) fault = fault
-sure_fault text (Typing error) fault = sure_type text error fault
-sure_fault text (NotYet Source) fault =
-    let here : IsTyped fault.program × (literals_of fault.program ≡ None) = fault.always fault.program fault.is_text in
-    record { program = fault.program; is_text = fault.is_text; typed = here.0; other = here.1 }
-sure_fault text (NotYet Script) fault = fault
-sure_fault text (NotYet Input) fault = fault
-sure_fault text (NoFile file) fault = fault
-sure_fault text ReadFault fault = fault
-sure_fault text OutOfMemory fault = fault
-
--- a text that is run has no fault
-pub fault_passes : OneProgram → (text literals : List ℕ) (end : TopEnd) → SourceFault text end → Releases text literals → ⊥
-fault_passes one text literals (Run end) fault releases = fault
-fault_passes one text literals Usage fault releases = fault
-fault_passes one text literals (TooLong file) fault releases = fault
-fault_passes one text literals (TokenEnd error) fault releases = lexed_faulty text releases.is_text.tokens error releases.is_text.lexed (token_fault text error fault)
-fault_passes one text literals (Syntax error) fault releases =
-    text_refused text releases.program error (other_fault text error fault) releases.is_text (syntax_fault text error fault)
-fault_passes one text literals (Typing error) fault releases =
+-- a text that is a program which keeps the typing rules has no fault
+pub accepted_fault : Laws → (text : List ℕ) (p : Program) (end : TopEnd) → IsText text p → IsTyped p → SourceFault text end → ⊥
+accepted_fault laws text p (TokenEnd error) is typed fault = lexed_faulty text is.tokens error is.lexed (token_fault text error fault)
+accepted_fault laws text p (Syntax error) is typed fault = text_refused text p error (other_fault text error fault) is (syntax_fault text error fault)
+accepted_fault laws text p (Typing error) is typed fault =
     let ill = type_fault text error fault in
-    let same : literals_of ill.program ≡ Some literals = one_literals one text ill.program releases.program ill.is_text releases.is_text ∙ releases.literals_are in
-    typed_refused ill.program error (other_type text error fault) (literals_typed ill.program literals same) ill.refused
-fault_passes one text literals (NotYet Source) fault releases =
-    let both : Some literals ≡ None = sym releases.literals_are ∙ one_literals one text releases.program fault.program releases.is_text fault.is_text ∙ fault.other in cc
-fault_passes one text literals (NotYet Script) fault releases = fault
-fault_passes one text literals (NotYet Input) fault releases = fault
-fault_passes one text literals (NoFile file) fault releases = fault
-fault_passes one text literals ReadFault fault releases = fault
-fault_passes one text literals OutOfMemory fault releases = fault
+    typed_refused p error (other_type text error fault) typed (laws.refused text ill.program p ill.is_text is error ill.refused)
+accepted_fault laws text p (Run end) is typed fault = fault
+accepted_fault laws text p (Mean end) is typed fault = fault
+accepted_fault laws text p Usage is typed fault = fault
+accepted_fault laws text p (TooLong file) is typed fault = fault
+accepted_fault laws text p (NotYet file) is typed fault = fault
+accepted_fault laws text p (NoFile file) is typed fault = fault
+accepted_fault laws text p ReadFault is typed fault = fault
+accepted_fault laws text p WriteFault is typed fault = fault
+accepted_fault laws text p OutOfMemory is typed fault = fault
 
 -- two faults of the tokens of one text are one
 two_refusals : (text : List ℕ) (a b : SyntaxError) → a ≢ syntax.OutOfMemory → b ≢ syntax.OutOfMemory → HasSyntaxFault text a → HasSyntaxFault text b → a ≡ b
@@ -272,48 +231,39 @@ text_read : (text : List ℕ) (p : Program) (error : SyntaxError) → IsText tex
 text_read text p error is fault = text_refused text p error (other_fault text error fault) is (syntax_fault text error fault)
 
 -- a text has one fault
-pub one_fault : (text : List ℕ) (a b : TopEnd) → SourceFault text a → SureFault text b → a ≡ b
-one_fault text (TokenEnd a) (TokenEnd b) first second =
+pub one_fault : Laws → (text : List ℕ) (a b : TopEnd) → SourceFault text a → SourceFault text b → a ≡ b
+one_fault laws text (TokenEnd a) (TokenEnd b) first second =
     let both : Err a ≡ Err b = sym (token_fault text a first) ∙ token_fault text b second in cc
-one_fault text (TokenEnd a) (Syntax b) first second =
+one_fault laws text (TokenEnd a) (Syntax b) first second =
     let fault = syntax_fault text b second in absurd (lexed_faulty text fault.tokens a fault.lexed (token_fault text a first))
-one_fault text (TokenEnd a) (Typing b) first second = let sure = always_type text b second in absurd (text_lexed text sure.program a sure.is_text first)
-one_fault text (TokenEnd a) (NotYet Source) first second = absurd (text_lexed text second.program a second.is_text first)
-one_fault text (Syntax a) (TokenEnd b) first second =
+one_fault laws text (TokenEnd a) (Typing b) first second = let ill = type_fault text b second in absurd (text_lexed text ill.program a ill.is_text first)
+one_fault laws text (Syntax a) (TokenEnd b) first second =
     let fault = syntax_fault text a first in absurd (lexed_faulty text fault.tokens b fault.lexed (token_fault text b second))
-one_fault text (Syntax a) (Syntax b) first second =
+one_fault laws text (Syntax a) (Syntax b) first second =
     ap Syntax (two_refusals text a b (other_fault text a first) (other_fault text b second) (syntax_fault text a first) (syntax_fault text b second))
-one_fault text (Syntax a) (Typing b) first second = let sure = always_type text b second in absurd (text_read text sure.program a sure.is_text first)
-one_fault text (Syntax a) (NotYet Source) first second = absurd (text_read text second.program a second.is_text first)
-one_fault text (Typing a) (TokenEnd b) first second = let ill = type_fault text a first in absurd (text_lexed text ill.program b ill.is_text second)
-one_fault text (Typing a) (Syntax b) first second = let ill = type_fault text a first in absurd (text_read text ill.program b ill.is_text second)
-one_fault text (Typing a) (Typing b) first second =
+one_fault laws text (Syntax a) (Typing b) first second = let ill = type_fault text b second in absurd (text_read text ill.program a ill.is_text first)
+one_fault laws text (Typing a) (TokenEnd b) first second = let ill = type_fault text a first in absurd (text_lexed text ill.program b ill.is_text second)
+one_fault laws text (Typing a) (Syntax b) first second = let ill = type_fault text a first in absurd (text_read text ill.program b ill.is_text second)
+one_fault laws text (Typing a) (Typing b) first second =
     let ill = type_fault text a first in
-    let sure = always_type text b second in
-    ap Typing (one_type_error ill.program a b (other_type text a first) (other_type text b (sure_type text b second)) ill.refused (sure.always ill.program ill.is_text))
-one_fault text (Typing a) (NotYet Source) first second =
-    let ill = type_fault text a first in
-    let sure : IsTyped ill.program × (literals_of ill.program ≡ None) = second.always ill.program ill.is_text in
-    absurd (typed_refused ill.program a (other_type text a first) sure.0 ill.refused)
-one_fault text (NotYet Source) (TokenEnd b) first second = absurd (text_lexed text first.program b first.is_text second)
-one_fault text (NotYet Source) (Syntax b) first second = absurd (text_read text first.program b first.is_text second)
-one_fault text (NotYet Source) (Typing b) first second =
-    let sure = always_type text b second in
-    absurd (typed_refused first.program b (other_type text b (sure_type text b second)) first.typed (sure.always first.program first.is_text))
-one_fault text (NotYet Source) (NotYet Source) first second = refl
-one_fault text (Run end) b first second = absurd first
-one_fault text Usage b first second = absurd first
-one_fault text (TooLong file) b first second = absurd first
-one_fault text (NotYet Script) b first second = absurd first
-one_fault text (NotYet Input) b first second = absurd first
-one_fault text (NoFile file) b first second = absurd first
-one_fault text ReadFault b first second = absurd first
-one_fault text OutOfMemory b first second = absurd first
-one_fault text a (Run end) first second = absurd second
-one_fault text a Usage first second = absurd second
-one_fault text a (TooLong file) first second = absurd second
-one_fault text a (NotYet Script) first second = absurd second
-one_fault text a (NotYet Input) first second = absurd second
-one_fault text a (NoFile file) first second = absurd second
-one_fault text a ReadFault first second = absurd second
-one_fault text a OutOfMemory first second = absurd second
+    let other = type_fault text b second in
+    ap Typing (one_type_error other.program a b (other_type text a first) (other_type text b second)
+    (laws.refused text ill.program other.program ill.is_text other.is_text a ill.refused) other.refused)
+one_fault laws text (Run end) b first second = absurd first
+one_fault laws text (Mean end) b first second = absurd first
+one_fault laws text Usage b first second = absurd first
+one_fault laws text (TooLong file) b first second = absurd first
+one_fault laws text (NotYet file) b first second = absurd first
+one_fault laws text (NoFile file) b first second = absurd first
+one_fault laws text ReadFault b first second = absurd first
+one_fault laws text WriteFault b first second = absurd first
+one_fault laws text OutOfMemory b first second = absurd first
+one_fault laws text a (Run end) first second = absurd second
+one_fault laws text a (Mean end) first second = absurd second
+one_fault laws text a Usage first second = absurd second
+one_fault laws text a (TooLong file) first second = absurd second
+one_fault laws text a (NotYet file) first second = absurd second
+one_fault laws text a (NoFile file) first second = absurd second
+one_fault laws text a ReadFault first second = absurd second
+one_fault laws text a WriteFault first second = absurd second
+one_fault laws text a OutOfMemory first second = absurd second

@@ -1,29 +1,41 @@
 -- Why the program answers what it answers: the words, and what a folder tells of the files that they name.
-use Rattle.std.specs.Prelude.{◌≡◌, ◌≢◌, ◌⊎◌, ℕ, ◌+◌, ◌*◌, ◌<◌, ◌≤◌, ◌%◌, List, [], length, map, Option, None, Some, IfSome}
+use Rattle.std.specs.Prelude.{◌≡◌, ◌≢◌, ◌⊎◌, ℕ, ◌+◌, ◌*◌, ◌<◌, ◌≤◌, List, [], length, Option, None, Some, IfSome}
 use Rattle.aegis_num.specs.declared.limits.TheConstants.{MAX_SOURCE_BYTES, MAX_SCRIPT_BYTES, MAX_INPUT_BYTES}
 use Rattle.aegis_edge.specs.Faults.{Rose}
 use Rattle.aegis_edge.specs.Folder.{Files, HoldsWhole, content_of}
 use Rattle.aegis_edge.specs.Sink.{Appends, AppendsFront}
+use Rattle.c_evaluator.specs.Seen.{end_of}
 use Rattle.c_grammar.specs.declared.item.Program.{Program}
+use Rattle.c_meaning.specs.Resolving.{program_in}
+use Rattle.c_plain.specs.Meaning.{Meaning, mean_alone}
+use Rattle.c_plain.specs.States as outcome
 use Rattle.c_reader.specs.declared.error.SyntaxError.TheVariants as syntax
 use Rattle.c_token.specs.declared.kinds.TokenError.TheVariants as token
 use Rattle.c_types.specs.declared.error.TypeError.TheVariants as type
 use Rattle.c_types.specs.Checked.{IsTyped}
-use Rattle.c_types.specs.Checked.{IsRefused as IsIllTyped}
 use Rattle.aegis_run.specs.declared.ends.File.{File}
 use Rattle.aegis_run.specs.declared.ends.File.TheVariants.{Source, Script, Input}
-use Rattle.aegis_run.specs.declared.ends.End.TheVariants.{Ended, WriteFault}
+use Rattle.aegis_run.specs.declared.ends.End.TheVariants as run
 use Rattle.aegis_run.specs.declared.ends.TopEnd.{TopEnd}
-use Rattle.aegis_run.specs.declared.ends.TopEnd.TheVariants.{Run, Usage, TooLong, Token, Syntax, Typing, NotYet, NoFile, ReadFault, OutOfMemory}
+use Rattle.aegis_run.specs.declared.ends.TopEnd.TheVariants.{Run, Mean, Usage, TooLong, Token, Syntax, Typing, NotYet, NoFile, ReadFault, WriteFault, OutOfMemory}
 use Rattle.aegis_run.specs.Literals.{literals_of}
-use Rattle.aegis_run.specs.SourceText.{IsText, IsAlways, HasTokenFault, HasSyntaxFault, HasTypeFault}
-use Rattle.aegis_run.specs.Words.{RunNames}
+use Rattle.c_text.specs.Texts.{IsText, HasTokenFault, HasSyntaxFault, HasTypeFault}
+use Rattle.aegis_run.specs.Words.{RunNames, Command}
+use Rattle.aegis_run.specs.Words as asks
 
--- the name that the words give for a file
-abbrev pub name_for : RunNames → File → List ℕ
-name_for names Source = names.source
-name_for names Script = names.script
-name_for names Input = names.input
+-- the name that the words give for a file; `mean` names no script
+abbrev pub name_for : Command → File → List ℕ
+name_for (asks.Run names) Source = names.source
+name_for (asks.Run names) Script = names.script
+name_for (asks.Run names) Input = names.input
+name_for (asks.Mean names) Source = names.source
+name_for (asks.Mean names) Script = []
+name_for (asks.Mean names) Input = names.input
+
+-- how many loop turns the meaning of a command may make: all that a run with this fuel can come to, or as many as the words say
+abbrev pub turns_for : Command → ℕ
+turns_for (asks.Run names) = 64 * (names.fuel + 1)
+turns_for (asks.Mean names) = names.turns
 
 -- the most bytes that a file may hold
 abbrev pub limit_for : File → ℕ
@@ -36,53 +48,33 @@ pub record IsRead (files : Option Files) (name : List ℕ) (file : File) (text :
   pub whole : HoldsWhole files name text
   pub within : length text ≤ limit_for file
 
--- the text is a program that is run so far, and releases these literals
-pub record Releases (text literals : List ℕ) : Type 0 where
-  pub program : Program
-  pub is_text : IsText text program
-  pub literals_are : literals_of program ≡ Some literals
-
--- the text is a program that keeps the typing rules, and is not run yet
-pub record IsNotYet (text : List ℕ) : Type 0 where
-  pub program : Program
+-- the source was read, and is this program, which keeps the typing rules
+pub record IsAccepted (files : Option Files) (name : List ℕ) (program : Program) : Type 0 where
+  pub text : List ℕ
+  pub read : IsRead files name Source text
   pub is_text : IsText text program
   pub typed : IsTyped program
-  pub other : literals_of program ≡ None
 
--- why a text is not run, and which answer says so
-abbrev pub SourceFault : List ℕ → TopEnd → Type 0
-SourceFault text (Token token.OutOfMemory) = ⊥
-SourceFault text (Token error) = HasTokenFault text error
-SourceFault text (Syntax syntax.OutOfMemory) = ⊥
-SourceFault text (Syntax error) = HasSyntaxFault text error
-SourceFault text (Typing type.OutOfMemory) = ⊥
-SourceFault text (Typing error) = HasTypeFault text error
-SourceFault text (NotYet Source) = IsNotYet text
-SourceFault text end = ⊥
+-- a command can use a program: `run` those that release literals, `mean` all
+abbrev pub Suits : Command → Program → Type 0
+Suits (asks.Run names) program = (literals : List ℕ) × (literals_of program ≡ Some literals)
+Suits (asks.Mean names) program = Unit {0}
 
--- the same, where what stands in the unused bytes of names makes no difference
-abbrev pub SureFault : List ℕ → TopEnd → Type 0
-SureFault text (Typing type.OutOfMemory) = ⊥
-SureFault text (Typing error) = IsAlways text (λ program. IsIllTyped program error)
-SureFault text (NotYet Source) = IsAlways text (λ program. IsTyped program × (literals_of program ≡ None))
-SureFault text end = SourceFault text end
-
--- the source was read, and releases some literals
-pub record PassesSource (files : Option Files) (names : RunNames) : Type 0 where
-  pub text : List ℕ
-  pub read : IsRead files names.source Source text
-  pub literals : List ℕ
-  pub releases : Releases text literals
+-- the source was read, and the command can use its program
+abbrev pub PassesSource : Option Files → Command → Type 0
+PassesSource files command = (program : Program) × IsAccepted files (name_for command Source) program × Suits command program
 
 -- the script was read, and is empty
-abbrev pub PassesScript : Option Files → RunNames → Type 0
-PassesScript files names = IsRead files names.script Script []
+abbrev pub PassesScript : Option Files → Command → Type 0
+PassesScript files (asks.Run names) = IsRead files names.script Script []
+PassesScript files (asks.Mean names) = Unit {0}
 
--- a file is opened only where the files before it were read and let the run go on
-abbrev pub IsReached : Option Files → RunNames → File → Type 0
-IsReached files names Source = Unit {0}
-IsReached files names Script = PassesSource files names
-IsReached files names Input = PassesSource files names × PassesScript files names
+-- a file is opened only where the command names it, and the files before it were read and let it go on
+abbrev pub IsReached : Option Files → Command → File → Type 0
+IsReached files command Source = Unit {0}
+IsReached files (asks.Run names) Script = PassesSource files (asks.Run names)
+IsReached files (asks.Mean names) Script = ⊥
+IsReached files command Input = PassesSource files command × PassesScript files command
 
 -- no file has the name, as it is told; a folder that tells nothing counted a fault
 abbrev pub IsAbsent : Option Files → List ℕ → ℕ → ℕ → Type 0
@@ -94,65 +86,87 @@ abbrev pub IsOverlong : Option Files → List ℕ → File → ℕ → ℕ → T
 IsOverlong None name file before now = Rose before now
 IsOverlong (Some files) name file before now = limit_for file < length (content_of files name)
 
--- the source was read, and is not run, as this answer says
-pub record IsRefused (files : Option Files) (names : RunNames) (end : TopEnd) : Type 0 where
+-- a file is opened and is not there
+abbrev pub Lacks : Command → Option Files → File → ℕ → ℕ → Type 0
+Lacks command files file before now = IsReached files command file × IsAbsent files (name_for command file) before now
+
+-- a file is opened and is too long
+abbrev pub Exceeds : Command → Option Files → File → ℕ → ℕ → Type 0
+Exceeds command files file before now = IsReached files command file × IsOverlong files (name_for command file) file before now
+
+-- why a text is no program that keeps the typing rules, and which answer says so
+abbrev pub SourceFault : List ℕ → TopEnd → Type 0
+SourceFault text (Token token.OutOfMemory) = ⊥
+SourceFault text (Token error) = HasTokenFault text error
+SourceFault text (Syntax syntax.OutOfMemory) = ⊥
+SourceFault text (Syntax error) = HasSyntaxFault text error
+SourceFault text (Typing type.OutOfMemory) = ⊥
+SourceFault text (Typing error) = HasTypeFault text error
+SourceFault text end = ⊥
+
+-- the source was read, and is refused, as this answer says
+pub record IsRefused (files : Option Files) (command : Command) (end : TopEnd) : Type 0 where
   pub text : List ℕ
-  pub read : IsRead files names.source Source text
+  pub read : IsRead files (name_for command Source) Source text
   pub fault : SourceFault text end
 
--- the same, whatever stands in the unused bytes of names
-pub record IsSurelyRefused (files : Option Files) (names : RunNames) (end : TopEnd) : Type 0 where
-  pub text : List ℕ
-  pub read : IsRead files names.source Source text
-  pub fault : SureFault text end
+-- the source of a run is a program that is not run yet
+abbrev pub IsNotYet : Option Files → Command → Type 0
+IsNotYet files (asks.Run names) = (program : Program) × IsAccepted files names.source program × (literals_of program ≡ None)
+IsNotYet files (asks.Mean names) = ⊥
 
--- the script was read, and holds a byte
+-- the script of a run holds a byte
 pub record HoldsScript (files : Option Files) (names : RunNames) : Type 0 where
-  pub reached : IsReached files names Script
+  pub reached : IsReached files (asks.Run names) Script
   pub text : List ℕ
   pub read : IsRead files names.script Script text
   pub some : text ≢ []
 
--- the files were read, and the source releases these literals
-pub record IsRunOf (files : Option Files) (names : RunNames) (literals : List ℕ) : Type 0 where
-  pub source : List ℕ
-  pub source_read : IsRead files names.source Source source
-  pub releases : Releases source literals
-  pub script_read : PassesScript files names
+abbrev pub IsScriptNotYet : Option Files → Command → Type 0
+IsScriptNotYet files (asks.Run names) = HoldsScript files names
+IsScriptNotYet files (asks.Mean names) = ⊥
+
+-- the files of a command were read, and its program on its input means this, where no class is loose
+pub record MeansFrom (files : Option Files) (command : Command) (meaning : Meaning) : Type 0 where
+  pub program : Program
+  pub accepted : IsAccepted files (name_for command Source) program
+  pub suits : Suits command program
+  pub script_read : PassesScript files command
   pub input : List ℕ
-  pub input_read : IsRead files names.input Input input
+  pub input_read : IsRead files (name_for command Input) Input input
+  pub meaning_is : mean_alone (program_in program) input (turns_for command) ≡ meaning
 
--- the bytes that a program of these literals releases
-abbrev pub released : List ℕ → List ℕ
-released literals = map (λ n. n % 256) literals
+-- the same, of a run
+abbrev pub RunMeans : Option Files → Command → Meaning → Type 0
+RunMeans files (asks.Run names) meaning = MeansFrom files (asks.Run names) meaning
+RunMeans files (asks.Mean names) meaning = ⊥
 
--- a file is opened and is not there
-abbrev pub Lacks : RunNames → Option Files → File → ℕ → ℕ → Type 0
-Lacks names files file before now = IsReached files names file × IsAbsent files (name_for names file) before now
+-- the same, of a `mean`
+abbrev pub MeanMeans : Option Files → Command → Meaning → Type 0
+MeanMeans files (asks.Run names) meaning = ⊥
+MeanMeans files (asks.Mean names) meaning = MeansFrom files (asks.Mean names) meaning
 
--- a file is opened and is too long
-abbrev pub Exceeds : RunNames → Option Files → File → ℕ → ℕ → Type 0
-Exceeds names files file before now = IsReached files names file × IsOverlong files (name_for names file) file before now
+-- why each answer comes: the command, a folder's files, and its count of faults before the call and now
+abbrev pub CauseOf : Command → Option Files → ℕ → ℕ → TopEnd → Type 0
+CauseOf command files before now Usage = ⊥
+CauseOf command files before now (NoFile file) = Lacks command files file before now
+CauseOf command files before now (TooLong file) = Exceeds command files file before now
+CauseOf command files before now (Token error) = IsRefused files command (Token error)
+CauseOf command files before now (Syntax error) = IsRefused files command (Syntax error)
+CauseOf command files before now (Typing error) = IsRefused files command (Typing error)
+CauseOf command files before now (NotYet Source) = IsNotYet files command
+CauseOf command files before now (NotYet Script) = IsScriptNotYet files command
+CauseOf command files before now (NotYet Input) = ⊥
+CauseOf command files before now ReadFault = Rose before now
+CauseOf command files before now OutOfMemory = Unit {0}
+CauseOf command files before now WriteFault = (meaning : Meaning) × MeanMeans files command meaning
+CauseOf command files before now (Run end) = (meaning : Meaning) × RunMeans files command meaning
+CauseOf command files before now (Mean end) = (meaning : Meaning) × MeanMeans files command meaning × (end_of end ≡ meaning.end)
 
--- why each answer comes: the names of the run, a folder's files, and its count of faults before the call and now
-abbrev pub CauseOfRun : RunNames → Option Files → ℕ → ℕ → TopEnd → Type 0
-CauseOfRun names files before now Usage = ⊥
-CauseOfRun names files before now (NoFile file) = Lacks names files file before now
-CauseOfRun names files before now (TooLong file) = Exceeds names files file before now
-CauseOfRun names files before now (Token error) = IsRefused files names (Token error)
-CauseOfRun names files before now (Syntax error) = IsRefused files names (Syntax error)
-CauseOfRun names files before now (Typing error) = IsRefused files names (Typing error)
-CauseOfRun names files before now (NotYet Source) = IsRefused files names (NotYet Source)
-CauseOfRun names files before now (NotYet Script) = HoldsScript files names
-CauseOfRun names files before now (NotYet Input) = ⊥
-CauseOfRun names files before now ReadFault = Rose before now
-CauseOfRun names files before now OutOfMemory = Unit {0}
-CauseOfRun names files before now (Run end) = (literals : List ℕ) × IsRunOf files names literals
-
--- the same with the words, which may be no run
-abbrev pub Cause : Option RunNames → Option Files → ℕ → ℕ → TopEnd → Type 0
+-- the same with the words, which may be no command
+abbrev pub Cause : Option Command → Option Files → ℕ → ℕ → TopEnd → Type 0
 Cause None files before now end = end ≡ Usage
-Cause (Some names) files before now end = CauseOfRun names files before now end
+Cause (Some command) files before now end = CauseOf command files before now end
 
 -- the folder tells its files
 abbrev pub AreTold : Option Files → Type 0
@@ -169,23 +183,32 @@ IsFailure end = ⊥
 abbrev pub IsOrFails : TopEnd → TopEnd → Type 0
 IsOrFails expected end = (end ≡ expected) ⊎ IsFailure end
 
--- the script is refused, or a failure came first
-abbrev pub RefusesScript : TopEnd → Type 0
-RefusesScript (NotYet Script) = Unit {0}
-RefusesScript end = IsFailure end
-
 -- a run was started, or a failure came first
 abbrev pub StartsRun : TopEnd → Type 0
 StartsRun (Run end) = Unit {0}
 StartsRun end = IsFailure end
 
--- what a run put into a sink: all that its source releases, or a front of it; no other answer put anything there
-abbrev pub Sends : Option RunNames → Option Files → TopEnd → Option (List ℕ) → Option (List ℕ) → Type 0
-Sends row files (Run Ended) old new = IfSome row (λ names. (literals : List ℕ) × IsRunOf files names literals × Appends old new (released literals))
-Sends row files (Run WriteFault) old new = IfSome row (λ names. (literals : List ℕ) × IsRunOf files names literals × AppendsFront old new (released literals))
+-- the meaning's end, unless a failure came first or the bytes were not taken
+abbrev pub TellsMeaning : outcome.End → TopEnd → Type 0
+TellsMeaning expected (Mean end) = end_of end ≡ expected
+TellsMeaning expected WriteFault = Unit {0}
+TellsMeaning expected end = IsFailure end
+
+-- What went into a sink: all that the program means, where the run came to its end or the meaning was told, a front of it where a
+-- byte was not taken, and nothing at each other answer.
+abbrev pub Sends : Option Command → Option Files → TopEnd → Option (List ℕ) → Option (List ℕ) → Type 0
+Sends row files (Run run.Ended) old new = IfSome row (λ command. (meaning : Meaning)
+    × RunMeans files command meaning × (meaning.end ≡ outcome.Ended) × Appends old new meaning.traffic.bytes)
+Sends row files (Run run.WriteFault) old new = IfSome row (λ command. (meaning : Meaning)
+    × RunMeans files command meaning × AppendsFront old new meaning.traffic.bytes)
+Sends row files (Mean end) old new = IfSome row (λ command. (meaning : Meaning)
+    × MeanMeans files command meaning × (end_of end ≡ meaning.end) × Appends old new meaning.traffic.bytes)
+Sends row files WriteFault old new = IfSome row (λ command. (meaning : Meaning)
+    × MeanMeans files command meaning × AppendsFront old new meaning.traffic.bytes)
 Sends row files end old new = new ≡ old
 
 -- how many instructions a run to the end took: two for each release, and the exit
-abbrev pub IsRetired : Option RunNames → Option Files → TopEnd → ℕ → Type 0
-IsRetired row files (Run Ended) retired = IfSome row (λ names. (literals : List ℕ) × IsRunOf files names literals × (retired ≡ 2 * length literals + 1))
+abbrev pub IsRetired : Option Command → Option Files → TopEnd → ℕ → Type 0
+IsRetired row files (Run run.Ended) retired = IfSome row (λ command. (meaning : Meaning)
+    × RunMeans files command meaning × (retired ≡ 2 * length meaning.traffic.bytes + 1))
 IsRetired row files end retired = Unit {0}

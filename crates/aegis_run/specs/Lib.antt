@@ -1,7 +1,6 @@
 pub mod Answer
 pub mod Code
+pub mod Literals
 pub mod Opening
 pub mod Report
 pub mod Words
-pub mod Literals
-pub mod SourceText

@@ -1,5 +1,5 @@
 -- The programs that are run so far: `main` releases literals one after another, and returns a literal.
-use Rattle.std.specs.Prelude.{ℕ, Bool, true, false, not, ◌&&◌, List, [], ◌∷◌, codes, Option, Some, None, is_some, if◌then◌else◌}
+use Rattle.std.specs.Prelude.{ℕ, ◌%◌, Bool, true, false, not, ◌&&◌, List, [], ◌∷◌, map, codes, Option, Some, None, is_some, if◌then◌else◌}
 use Rattle.std.specs.Str.{bytes_eq}
 use Rattle.arrayvec.specs.ArrayString.{ArrayString}
 use Rattle.c_grammar.specs.declared.expr.Expr.{Expr}
@@ -65,3 +65,7 @@ items_literals (first ∷ second ∷ later) = None
 
 abbrev pub literals_of : Program → Option (List ℕ)
 literals_of program = items_literals program.items
+
+-- the bytes that a program of these literals releases
+abbrev pub released : List ℕ → List ℕ
+released literals = map (λ n. n % 256) literals

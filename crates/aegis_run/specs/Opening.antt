@@ -1,13 +1,25 @@
--- Why one file is not read, and why a text is not run.
-use Rattle.std.specs.Prelude.{◌≡◌, ℕ, List, Option}
+-- Why one file is not read, why a text is refused, and what the code keeps of the words.
+use Rattle.std.specs.Prelude.{◌≡◌, ℕ, List, Option, None}
 use Rattle.aegis_edge.specs.Faults.{Rose}
 use Rattle.aegis_edge.specs.Folder.{Files}
 use Rattle.aegis_run.specs.declared.ends.File.{File}
 use Rattle.aegis_run.specs.declared.ends.TopEnd.{TopEnd}
-use Rattle.aegis_run.specs.declared.ends.TopEnd.TheVariants.{Run, TooLong, NoFile, ReadFault, OutOfMemory}
+use Rattle.aegis_run.specs.declared.ends.TopEnd.TheVariants.{Run, Mean, TooLong, NotYet, NoFile, ReadFault, WriteFault, OutOfMemory}
+use Rattle.aegis_run.specs.declared.ends.File.TheVariants.{Source}
+use Rattle.aegis_run.specs.Literals.{literals_of}
+use Rattle.c_grammar.specs.declared.item.Program.{Program}
 use Rattle.aegis_run.specs.declared.words.RunWords.{RunWords}
-use Rattle.aegis_run.specs.Words.{RunNames}
-use Rattle.aegis_run.specs.Answer.{IsAbsent, IsOverlong, SourceFault}
+use Rattle.aegis_run.specs.declared.words.MeanWords.{MeanWords}
+use Rattle.aegis_run.specs.declared.words.Command.{Command as CommandWords}
+use Rattle.aegis_run.specs.declared.words.Command.TheVariants as words
+use Rattle.aegis_run.specs.Words.{RunNames, MeanNames, Command}
+use Rattle.aegis_run.specs.Words as asks
+use Rattle.aegis_run.specs.Answer.{IsAbsent, IsOverlong, RunMeans, SourceFault}
+use Rattle.aegis_run.specs.declared.ends.End.TheVariants as run
+use Rattle.aegis_edge.specs.Sink.{Appends, AppendsFront}
+use Rattle.c_evaluator.specs.Seen.{end_of}
+use Rattle.c_plain.specs.Meaning.{Meaning}
+use Rattle.c_plain.specs.States as outcome
 
 -- why a file is not read, and which answer says so
 abbrev pub OpenCause : Option Files → List ℕ → File → ℕ → ℕ → TopEnd → Type 0
@@ -17,16 +29,50 @@ OpenCause files name file before now ReadFault = Rose before now
 OpenCause files name file before now OutOfMemory = Unit {0}
 OpenCause files name file before now end = ⊥
 
--- why a text gives no literals, and which answer says so
-abbrev pub ParseCause : List ℕ → TopEnd → Type 0
-ParseCause text OutOfMemory = Unit {0}
-ParseCause text end = SourceFault text end
+-- why a text is no program that keeps the typing rules, and which answer says so
+abbrev pub AcceptCause : List ℕ → TopEnd → Type 0
+AcceptCause text OutOfMemory = Unit {0}
+AcceptCause text end = SourceFault text end
 
--- no run was started
-abbrev pub IsRefusal : TopEnd → Type 0
-IsRefusal (Run end) = ⊥
-IsRefusal end = Unit {0}
+-- why a program is not run, and which answer says so
+abbrev pub NotRunCause : Program → TopEnd → Type 0
+NotRunCause program (NotYet Source) = literals_of program ≡ None
+NotRunCause program OutOfMemory = Unit {0}
+NotRunCause program end = ⊥
+
+-- a byte was not taken
+abbrev pub IsWriteFault : TopEnd → Type 0
+IsWriteFault (Run run.WriteFault) = Unit {0}
+IsWriteFault WriteFault = Unit {0}
+IsWriteFault end = ⊥
+
+-- bytes may have gone out, and all files were read before
+abbrev pub Writes : TopEnd → Type 0
+Writes (Run end) = Unit {0}
+Writes (Mean end) = Unit {0}
+Writes WriteFault = Unit {0}
+Writes end = ⊥
+
+-- the files of a run were read, and its program means these bytes, at whose end it ends
+abbrev pub IsReady : Option Files → Command → List ℕ → Type 0
+IsReady files command bytes = (meaning : Meaning) × RunMeans files command meaning × (meaning.end ≡ outcome.Ended) × (meaning.traffic.bytes ≡ bytes)
+
+-- what an answer behind a meaning put into a sink
+abbrev pub SendsMeaning : TopEnd → Option (List ℕ) → Option (List ℕ) → Meaning → Type 0
+SendsMeaning (Mean end) old new meaning = (end_of end ≡ meaning.end) × Appends old new meaning.traffic.bytes
+SendsMeaning WriteFault old new meaning = AppendsFront old new meaning.traffic.bytes
+SendsMeaning OutOfMemory old new meaning = new ≡ old
+SendsMeaning end old new meaning = ⊥
 
 -- the names among the words of a run
 abbrev pub names_of : RunWords → RunNames
-names_of words = record { source = words.source.now; script = words.script.now; input = words.input.now }
+names_of words = record { source = words.source.now; script = words.script.now; input = words.input.now; fuel = words.fuel }
+
+-- the names among the words of a `mean`
+abbrev pub mean_names_of : MeanWords → MeanNames
+mean_names_of words = record { source = words.source.now; input = words.input.now; turns = words.turns }
+
+-- what the code keeps of the words, as the command that they are
+abbrev pub command_of : CommandWords → Command
+command_of (words.Run names) = asks.Run (names_of names)
+command_of (words.Mean names) = asks.Mean (mean_names_of names)

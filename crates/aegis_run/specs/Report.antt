@@ -2,9 +2,11 @@
 use Rattle.std.specs.Prelude.{ℕ, Bool, true, false, List, ◌++◌, codes, decimal}
 use Rattle.aegis_run.specs.declared.ends.File.{File}
 use Rattle.aegis_run.specs.declared.ends.File.TheVariants.{Source, Script, Input}
-use Rattle.aegis_run.specs.declared.ends.End.TheVariants.{Ended, WriteFault}
+use Rattle.aegis_run.specs.declared.ends.End.TheVariants as run
 use Rattle.aegis_run.specs.declared.ends.TopEnd.{TopEnd}
-use Rattle.aegis_run.specs.declared.ends.TopEnd.TheVariants.{Run, Usage, TooLong, Token, Syntax, Typing, NotYet, NoFile, ReadFault, OutOfMemory}
+use Rattle.aegis_run.specs.declared.ends.TopEnd.TheVariants.{Run, Mean, Usage, TooLong, Token, Syntax, Typing, NotYet, NoFile, ReadFault, WriteFault, OutOfMemory}
+use Rattle.c_evaluator.specs.declared.mean_end.MeanEnd.{MeanEnd}
+use Rattle.c_evaluator.specs.declared.mean_end.MeanEnd.TheVariants as mean
 use Rattle.c_token.specs.declared.kinds.TokenError.{TokenError}
 use Rattle.c_token.specs.declared.kinds.TokenError.TheVariants as token
 use Rattle.c_reader.specs.declared.error.SyntaxError.{SyntaxError}
@@ -14,17 +16,22 @@ use Rattle.c_types.specs.declared.error.TypeError.TheVariants as type
 
 -- the status of an answer whose line was written
 abbrev pub status_when_noted : TopEnd → ℕ
-status_when_noted (Run Ended) = 0
+status_when_noted (Run run.Ended) = 0
 status_when_noted Usage = 1
 status_when_noted (Token error) = 2
 status_when_noted (Syntax error) = 2
 status_when_noted (Typing error) = 2
 status_when_noted (NoFile file) = 4
 status_when_noted ReadFault = 4
-status_when_noted (Run WriteFault) = 5
+status_when_noted (Run run.WriteFault) = 5
 status_when_noted OutOfMemory = 6
 status_when_noted (TooLong file) = 7
 status_when_noted (NotYet file) = 9
+status_when_noted WriteFault = 5
+status_when_noted (Mean mean.Ended) = 0
+status_when_noted (Mean (mean.Index at)) = 10
+status_when_noted (Mean (mean.Divide at)) = 11
+status_when_noted (Mean mean.Turns) = 30
 
 -- the status of an answer
 abbrev pub status_of : TopEnd → Bool → ℕ
@@ -69,11 +76,19 @@ type_line (type.TooMany place) = place_line (codes "token ") place (codes ": too
 type_line type.NoMain = codes "no main\n"
 type_line type.OutOfMemory = codes "out of memory\n"
 
+-- the line of a meaning that ends so
+abbrev pub meaning_line : MeanEnd → List ℕ
+meaning_line mean.Ended = codes "ended\n"
+meaning_line (mean.Index at) = place_line (codes "index token ") at (codes "\n")
+meaning_line (mean.Divide at) = place_line (codes "divide token ") at (codes "\n")
+meaning_line mean.Turns = codes "turns\n"
+
 -- the line of an answer, and of a run behind so many instructions
 abbrev pub line_of : TopEnd → ℕ → List ℕ
-line_of (Run Ended) retired = codes "ended retired " ++ decimal retired ++ codes " events 0\n"
-line_of (Run WriteFault) retired = codes "write fault\n"
-line_of Usage retired = codes "usage: run SOURCE SCRIPT INPUT FUEL KEY NONCE\n"
+line_of (Run run.Ended) retired = codes "ended retired " ++ decimal retired ++ codes " events 0\n"
+line_of (Run run.WriteFault) retired = codes "write fault\n"
+line_of (Mean end) retired = meaning_line end
+line_of Usage retired = codes "usage: run SOURCE SCRIPT INPUT FUEL KEY NONCE, mean SOURCE INPUT TURNS\n"
 line_of (TooLong file) retired = codes "too long: " ++ name_of file ++ codes "\n"
 line_of (Token error) retired = token_line error
 line_of (Syntax error) retired = syntax_line error
@@ -81,4 +96,5 @@ line_of (Typing error) retired = type_line error
 line_of (NotYet file) retired = codes "not yet " ++ name_of file ++ codes "\n"
 line_of (NoFile file) retired = codes "no file: " ++ name_of file ++ codes "\n"
 line_of ReadFault retired = codes "read fault\n"
+line_of WriteFault retired = codes "write fault\n"
 line_of OutOfMemory retired = codes "out of memory\n"

@@ -1,19 +1,25 @@
-//! The way of a call: its words, its files, the code, the run.
-ghost use Rattle.std.specs.Prelude.{◌≡◌, ◌≢◌, ◌+◌, ◌*◌, ◌^◌, ◌<◌, ◌≤◌, None, length, IfOk, OnErr};
+//! The way of a call: its words, its files, the code and its run, or the meaning.
+ghost use Rattle.std.specs.Prelude.{◌≡◌, ◌≢◌, ◌+◌, ◌*◌, ◌^◌, ◌<◌, ◌≤◌, None, Some, length, IfOk, OnErr};
 ghost use Rattle.std.specs.List.{AllByRecursion};
 ghost use Rattle.aegis_edge.specs.Faults.{Rose};
-ghost use Rattle.aegis_run.specs.Words.{names_in};
-ghost use Rattle.aegis_run.specs.Answer.{Cause, AreTold, Sends, IsRetired, released};
+ghost use Rattle.c_meaning.specs.Resolving.{program_in};
+ghost use Rattle.c_plain.specs.Meaning.{mean_alone};
+ghost use Rattle.aegis_run.specs.Words.{command_in};
+ghost use Rattle.aegis_run.specs.Words as asks;
+ghost use Rattle.aegis_run.specs.Answer.{Cause, CauseOf, AreTold, Sends, IsRetired};
+ghost use Rattle.aegis_run.specs.Literals.{released};
+ghost use Rattle.aegis_run.specs.Opening.{IsWriteFault, SendsMeaning, Writes, names_of, mean_names_of};
 ghost use Rattle.aegis_run.specs.Code.{Delivers, SendsOnly};
 
 use crate::compiler::compile;
 use crate::ends::{End, TopEnd};
-use crate::files::{Prepared, prepare};
+use crate::files::{Accepted, Prepared, prepare_mean, prepare_run};
 use crate::machine::{self, Ran};
-use crate::words::run_words;
+use crate::words::{Command, MeanWords, RunWords, read_command};
 use aegis_edge::{Folder, Sink};
 use aegis_num::OutOfMemory;
 use aegis_num::limits::MAX_SOURCE_BYTES;
+use c_meaning::mean;
 use std::alloc::Global;
 
 /// An answer, and behind how many instructions its run ended, 0 where none was started.
@@ -23,7 +29,7 @@ pub struct Outcome {
     pub retired: u64,
 }
 
-/// Answers the words, and runs the source where they are a run and its files allow it.
+/// Answers the words, and does what they ask for where their files allow it.
 pub fn answer_words<F: Folder, K: Sink>(
     alloc: Global,
     words: &[String],
@@ -32,32 +38,108 @@ pub fn answer_words<F: Folder, K: Sink>(
 ) -> Outcome
     requires { K.limit out.old ≡ None }
 
-    ensures cause { Cause (names_in words.now) (F.files folder.old)
+    ensures cause { Cause (command_in words.now) (F.files folder.old)
         (F.faults folder.old) (F.faults folder.new) result.end }
-    ensures sends { Sends (names_in words.now) (F.files folder.old) result.end
+    ensures sends { Sends (command_in words.now) (F.files folder.old) result.end
         (K.written out.old) (K.written out.new) }
-    ensures fault { result.end ≡ TopEnd.Run End.WriteFault
-        → Rose (K.faults out.old) (K.faults out.new) }
-    ensures retired { IsRetired (names_in words.now) (F.files folder.old)
+    ensures fault { IsWriteFault result.end → Rose (K.faults out.old) (K.faults out.new) }
+    ensures retired { IsRetired (command_in words.now) (F.files folder.old)
         result.end result.retired }
     ensures kept { F.files folder.new ≡ F.files folder.old }
-    ensures steady { (end : End) → result.end ≡ TopEnd.Run end
-        → F.faults folder.new ≡ F.faults folder.old }
+    ensures steady { Writes result.end → F.faults folder.new ≡ F.faults folder.old }
     ensures told_steady { AreTold (F.files folder.old)
         → result.end ≢ TopEnd.ReadFault → result.end ≢ TopEnd.OutOfMemory
         → F.faults folder.new ≡ F.faults folder.old }
-    ensures out_steady { result.end ≢ TopEnd.Run End.WriteFault
+    ensures out_steady { (IsWriteFault result.end → ⊥)
         → K.faults out.new ≡ K.faults out.old }
 {
-    let Some(names) = run_words(words) else {
-        return Outcome {
+    match read_command(words) {
+        Some(Command::Run(names)) => answer_run(alloc, &names, folder, out),
+        Some(Command::Mean(names)) => Outcome {
+            end: answer_mean(alloc, &names, folder, out),
+            retired: 0,
+        },
+        None => Outcome {
             end: TopEnd::Usage,
             retired: 0,
-        };
-    };
-    match prepare(alloc, folder, &names) {
+        },
+    }
+}
+
+/// Runs the source of a `run`, where its files allow it.
+fn answer_run<F: Folder, K: Sink>(
+    alloc: Global,
+    names: &RunWords<'_>,
+    folder: &mut F,
+    out: &mut K,
+) -> Outcome
+    requires { K.limit out.old ≡ None }
+
+    ensures cause { CauseOf (asks.Run (names_of names.now)) (F.files folder.old)
+        (F.faults folder.old) (F.faults folder.new) result.end }
+    ensures sends { Sends (Some (asks.Run (names_of names.now))) (F.files folder.old) result.end
+        (K.written out.old) (K.written out.new) }
+    ensures fault { IsWriteFault result.end → Rose (K.faults out.old) (K.faults out.new) }
+    ensures retired { IsRetired (Some (asks.Run (names_of names.now))) (F.files folder.old)
+        result.end result.retired }
+    ensures kept { F.files folder.new ≡ F.files folder.old }
+    ensures steady { Writes result.end → F.faults folder.new ≡ F.faults folder.old }
+    ensures told_steady { AreTold (F.files folder.old)
+        → result.end ≢ TopEnd.ReadFault → result.end ≢ TopEnd.OutOfMemory
+        → F.faults folder.new ≡ F.faults folder.old }
+    ensures out_steady { (IsWriteFault result.end → ⊥)
+        → K.faults out.new ≡ K.faults out.old }
+{
+    match prepare_run(alloc, folder, names) {
         Ok(prepared) => answer_prepared(alloc, &prepared, out),
         Err(end) => Outcome { end, retired: 0 },
+    }
+}
+
+/// Tells the meaning of the source of a `mean`, where its files allow it.
+fn answer_mean<F: Folder, K: Sink>(
+    alloc: Global,
+    names: &MeanWords<'_>,
+    folder: &mut F,
+    out: &mut K,
+) -> TopEnd
+    requires { K.limit out.old ≡ None }
+
+    ensures cause { CauseOf (asks.Mean (mean_names_of names.now)) (F.files folder.old)
+        (F.faults folder.old) (F.faults folder.new) result }
+    ensures sends { Sends (Some (asks.Mean (mean_names_of names.now))) (F.files folder.old) result
+        (K.written out.old) (K.written out.new) }
+    ensures fault { IsWriteFault result → Rose (K.faults out.old) (K.faults out.new) }
+    ensures kept { F.files folder.new ≡ F.files folder.old }
+    ensures steady { Writes result → F.faults folder.new ≡ F.faults folder.old }
+    ensures told_steady { AreTold (F.files folder.old)
+        → result ≢ TopEnd.ReadFault → result ≢ TopEnd.OutOfMemory
+        → F.faults folder.new ≡ F.faults folder.old }
+    ensures out_steady { (IsWriteFault result → ⊥) → K.faults out.new ≡ K.faults out.old }
+{
+    match prepare_mean(alloc, folder, names) {
+        Ok(accepted) => write_meaning(alloc, &accepted, names.turns, out),
+        Err(end) => end,
+    }
+}
+
+/// Writes the bytes that an accepted program releases, once its meaning is known.
+fn write_meaning<K: Sink>(alloc: Global, accepted: &Accepted, turns: u64, out: &mut K) -> TopEnd
+    requires { K.limit out.old ≡ None }
+
+    ensures sends { SendsMeaning result (K.written out.old) (K.written out.new)
+        (mean_alone (program_in accepted.now.program) accepted.now.input.items turns) }
+    ensures fault { IsWriteFault result → Rose (K.faults out.old) (K.faults out.new) }
+    ensures steady { (IsWriteFault result → ⊥) → K.faults out.new ≡ K.faults out.old }
+{
+    let mut bytes = Vec::new(alloc);
+    let input = accepted.input.as_slice();
+    match mean(alloc, &accepted.program, input, turns, &mut bytes) {
+        Ok(end) => match out.write(bytes.as_slice()) {
+            Ok(()) => TopEnd::Mean(end),
+            Err(_) => TopEnd::WriteFault,
+        },
+        Err(OutOfMemory) => TopEnd::OutOfMemory,
     }
 }
 

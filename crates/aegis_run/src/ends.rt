@@ -2,6 +2,7 @@
 ghost use Rattle.std.specs.Prelude.{◌≡◌};
 ghost use Rattle.aegis_run.specs.Report.{status_when_noted, status_of as status_of_answer};
 
+use c_meaning::MeanEnd;
 use c_reader::SyntaxError;
 use c_token::TokenError;
 use c_types::TypeError;
@@ -32,6 +33,8 @@ pub enum End {
 pub enum TopEnd {
     /// A run was started and ended so.
     Run(End),
+    /// The meaning of the source ends so, and every byte that it releases was taken.
+    Mean(MeanEnd),
     /// The words are no command.
     Usage,
     /// A file holds more bytes than it may.
@@ -48,7 +51,9 @@ pub enum TopEnd {
     NoFile(File),
     /// A file failed while it was read.
     ReadFault,
-    /// Memory ran out before a run was started.
+    /// A byte that the meaning of the source releases was not taken.
+    WriteFault,
+    /// Memory ran out before a run was started, or before the meaning was known.
     OutOfMemory,
 }
 
@@ -75,13 +80,16 @@ fn status_of_noted(end: TopEnd) -> u8
     ensures { result ≡ status_when_noted end }
 {
     match end {
-        TopEnd::Run(End::Ended) => 0,
+        TopEnd::Run(End::Ended) | TopEnd::Mean(MeanEnd::Ended) => 0,
         TopEnd::Usage => 1,
         TopEnd::Token(_) | TopEnd::Syntax(_) | TopEnd::Typing(_) => 2,
         TopEnd::NoFile(_) | TopEnd::ReadFault => 4,
-        TopEnd::Run(End::WriteFault) => 5,
+        TopEnd::Run(End::WriteFault) | TopEnd::WriteFault => 5,
         TopEnd::OutOfMemory => 6,
         TopEnd::TooLong(_) => 7,
         TopEnd::NotYet(_) => 9,
+        TopEnd::Mean(MeanEnd::Index { .. }) => 10,
+        TopEnd::Mean(MeanEnd::Divide { .. }) => 11,
+        TopEnd::Mean(MeanEnd::Turns) => 30,
     }
 }

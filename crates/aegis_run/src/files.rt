@@ -1,15 +1,17 @@
-//! The files that a run reads, in their order.
-ghost use Rattle.std.specs.Prelude.{◌≡◌, ◌≢◌, ◌≤◌, ◌*◌, length, IfOk, IfErr, OnOk};
+//! The files that a command reads, in their order.
+ghost use Rattle.std.specs.Prelude.{◌≡◌, ◌≢◌, ◌≤◌, ◌*◌, ℕ, List, Some, length, IfOk, IfErr, OnOk};
 ghost use Rattle.c_grammar.specs.Places.{Reads};
-ghost use Rattle.c_types.specs.Checked.{IsRead as IsReadProgram};
-ghost use Rattle.aegis_run.specs.Answer.{IsRead, AreTold, limit_for, CauseOfRun, IsRunOf, Releases};
-ghost use Rattle.aegis_run.specs.SourceText.{IsText, HasTokens, kinds_in};
-ghost use Rattle.aegis_run.specs.Literals.{literals_of as literals_are};
-ghost use Rattle.aegis_run.specs.Opening.{ParseCause, OpenCause, IsRefusal, names_of};
+ghost use Rattle.c_types.specs.Checked.{IsRead as IsReadProgram, IsTyped};
+ghost use Rattle.aegis_run.specs.declared.ends.File.TheVariants as file;
+ghost use Rattle.aegis_run.specs.Answer.{IsRead, IsAccepted, AreTold, limit_for, CauseOf};
+ghost use Rattle.c_text.specs.Texts.{IsText, HasTokens, kinds_in};
+ghost use Rattle.aegis_run.specs.Literals.{literals_of as literals_are, released};
+ghost use Rattle.aegis_run.specs.Opening.{AcceptCause, OpenCause, NotRunCause, IsReady, Writes, names_of, mean_names_of};
+ghost use Rattle.aegis_run.specs.Words as asks;
 
 use crate::ends::{File, TopEnd};
 use crate::literals::literals_of;
-use crate::words::RunWords;
+use crate::words::{MeanWords, RunWords};
 use aegis_edge::{Folder, FolderError};
 use aegis_num::OutOfMemory;
 use aegis_num::limits::{MAX_INPUT_BYTES, MAX_SCRIPT_BYTES, MAX_SOURCE_BYTES};
@@ -26,20 +28,28 @@ pub struct Prepared {
     pub input: Vec<u8>,
 }
 
+/// What a meaning starts from.
+#[derive(Drop)]
+pub struct Accepted {
+    pub program: Checked,
+    pub input: Vec<u8>,
+}
+
 /// Reads the source, the script and the input, in this order, up to the first that stops the run.
-pub fn prepare<F: Folder>(
+pub fn prepare_run<F: Folder>(
     alloc: Global,
     folder: &mut F,
     names: &RunWords<'_>,
 ) -> Result<Prepared, TopEnd>
     ensures ready { IfOk result (λ prepared.
-        IsRunOf (F.files folder.old) (names_of names.now) prepared.literals.items) }
+        IsReady (F.files folder.old) (asks.Run (names_of names.now))
+        (released prepared.literals.items)) }
     ensures few { IfOk result (λ prepared.
         5 * length prepared.literals.items ≤ MAX_SOURCE_BYTES) }
     ensures refused { IfErr result (λ end.
-        CauseOfRun (names_of names.now) (F.files folder.old)
+        CauseOf (asks.Run (names_of names.now)) (F.files folder.old)
         (F.faults folder.old) (F.faults folder.new) end) }
-    ensures no_run { IfErr result IsRefusal }
+    ensures unwritten { IfErr result (λ end. Writes end → ⊥) }
     ensures told_steady { IfErr result (λ end.
         AreTold (F.files folder.old) → end ≢ TopEnd.ReadFault → end ≢ TopEnd.OutOfMemory
         → F.faults folder.new ≡ F.faults folder.old) }
@@ -47,26 +57,65 @@ pub fn prepare<F: Folder>(
     ensures kept { F.files folder.new ≡ F.files folder.old }
 {
     let source = open(alloc, folder, names.source, File::Source)?;
-    let literals = parse(alloc, source.as_slice())?;
+    let program = accept(alloc, source.as_slice())?;
+    let literals = literals_in(alloc, &program)?;
     let script = open(alloc, folder, names.script, File::Script)?;
     if !script.is_empty() {
         return Err(TopEnd::NotYet(File::Script));
     }
-    let input = open(alloc, folder, names.input, File::Input)?;
-    Ok(Prepared { literals, input })
+    match open(alloc, folder, names.input, File::Input) {
+        Ok(input) => Ok(Prepared { literals, input }),
+        Err(end) => Err(end),
+    }
 }
 
-/// What a source releases.
-fn parse(alloc: Global, text: &[u8]) -> Result<Vec<u32>, TopEnd>
+/// Reads the source and the input, in this order, up to the first that leaves no meaning.
+pub fn prepare_mean<F: Folder>(
+    alloc: Global,
+    folder: &mut F,
+    names: &MeanWords<'_>,
+) -> Result<Accepted, TopEnd>
+    ensures source { IfOk result (λ accepted.
+        IsAccepted (F.files folder.old) names.now.source.now accepted.program) }
+    ensures input { IfOk result (λ accepted.
+        IsRead (F.files folder.old) names.now.input.now file.Input accepted.input.items) }
+    ensures refused { IfErr result (λ end.
+        CauseOf (asks.Mean (mean_names_of names.now)) (F.files folder.old)
+        (F.faults folder.old) (F.faults folder.new) end) }
+    ensures unwritten { IfErr result (λ end. Writes end → ⊥) }
+    ensures told_steady { IfErr result (λ end.
+        AreTold (F.files folder.old) → end ≢ TopEnd.ReadFault → end ≢ TopEnd.OutOfMemory
+        → F.faults folder.new ≡ F.faults folder.old) }
+    ensures steady { OnOk result (F.faults folder.new ≡ F.faults folder.old) }
+    ensures kept { F.files folder.new ≡ F.files folder.old }
+{
+    let source = open(alloc, folder, names.source, File::Source)?;
+    let program = accept(alloc, source.as_slice())?;
+    let input = open(alloc, folder, names.input, File::Input)?;
+    Ok(Accepted { program, input })
+}
+
+/// The program of a text, if it is one that keeps the typing rules.
+fn accept(alloc: Global, text: &[u8]) -> Result<Checked, TopEnd>
     requires { length text.now ≤ MAX_SOURCE_BYTES }
-    ensures read { IfOk result (λ literals. Releases text.now literals.items) }
-    ensures few { IfOk result (λ literals. 5 * length literals.items ≤ MAX_SOURCE_BYTES) }
-    ensures refused { IfErr result (λ end. ParseCause text.now end) }
+    ensures text { IfOk result (λ checked. IsText text.now checked) }
+    ensures typed { IfOk result (λ checked. IsTyped checked) }
+    ensures few { IfOk result (λ checked. (literals : List ℕ)
+        → literals_are checked ≡ Some literals → 5 * length literals ≤ MAX_SOURCE_BYTES) }
+    ensures refused { IfErr result (λ end. AcceptCause text.now end) }
 {
     let tokens = tokens_in(alloc, text)?;
     let program = program_in(alloc, text, tokens.as_slice())?;
-    let checked = checked_in(alloc, text, program)?;
-    match literals_of(alloc, checked.program()) {
+    checked_in(alloc, text, program)
+}
+
+/// What a program releases, where it is of the form that is run so far.
+fn literals_in(alloc: Global, program: &Checked) -> Result<Vec<u32>, TopEnd>
+    ensures read { IfOk result (λ literals.
+        literals_are program.now ≡ Some literals.items) }
+    ensures refused { IfErr result (NotRunCause program.now) }
+{
+    match literals_of(alloc, program.program()) {
         Ok(Some(literals)) => Ok(literals),
         Ok(None) => Err(TopEnd::NotYet(File::Source)),
         Err(OutOfMemory) => Err(TopEnd::OutOfMemory),
@@ -78,7 +127,7 @@ fn tokens_in(alloc: Global, text: &[u8]) -> Result<Vec<Token>, TopEnd>
     requires { length text.now ≤ MAX_SOURCE_BYTES }
     ensures read { IfOk result (λ tokens. HasTokens text.now tokens.items) }
     ensures few { IfOk result (λ tokens. length tokens.items ≤ length text.now) }
-    ensures refused { IfErr result (λ end. ParseCause text.now end) }
+    ensures refused { IfErr result (λ end. AcceptCause text.now end) }
 {
     match tokens(alloc, text) {
         Ok(tokens) => Ok(tokens),
@@ -92,7 +141,7 @@ fn program_in(alloc: Global, text: &[u8], tokens: &[Token]) -> Result<Program, T
     requires few { length tokens.now ≤ MAX_SOURCE_BYTES }
     requires lexed { HasTokens text.now tokens.now }
     ensures read { IfOk result (λ program. Reads (kinds_in tokens.now) program) }
-    ensures refused { IfErr result (λ end. ParseCause text.now end) }
+    ensures refused { IfErr result (λ end. AcceptCause text.now end) }
 {
     match read_program(alloc, tokens) {
         Ok(program) => Ok(program),
@@ -106,7 +155,8 @@ fn checked_in(alloc: Global, text: &[u8], program: Program) -> Result<Checked, T
     requires is_text { IsText text.now program }
     requires is_read { IsReadProgram program }
     ensures program { IfOk result (λ checked. checked ≡ program) }
-    ensures refused { IfErr result (λ end. ParseCause text.now end) }
+    ensures typed { OnOk result (IsTyped program) }
+    ensures refused { IfErr result (λ end. AcceptCause text.now end) }
 {
     match check(alloc, program) {
         Ok(checked) => Ok(checked),

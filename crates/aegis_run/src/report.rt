@@ -1,13 +1,19 @@
 //! The line of an answer on the notes.
 ghost use Rattle.std.specs.Prelude.{◌≡◌, ◌+◌, ◌≤◌, ◌++◌, length, decimal};
-ghost use Rattle.aegis_run.specs.Report.{line_of, name_of, place_line, syntax_line, token_line, type_line};
+ghost use Rattle.aegis_run.specs.Report.{line_of, meaning_line, name_of, place_line, syntax_line, token_line, type_line};
 
 use crate::ends::{End, File, TopEnd};
 use arrayvec::ArrayString;
+use c_meaning::MeanEnd;
 use c_reader::SyntaxError;
 use c_token::TokenError;
 use c_types::TypeError;
 use itoa::Buffer;
+
+/// The words of the commands.
+const USAGE_OF_RUN: &str = "usage: run SOURCE SCRIPT INPUT FUEL KEY NONCE";
+
+const USAGE_OF_MEAN: &str = ", mean SOURCE INPUT TURNS";
 
 /// A line with its line feed.
 pub type Line = ArrayString<256>;
@@ -19,7 +25,8 @@ pub fn report_line(end: TopEnd, retired: u64) -> Line
     match end {
         TopEnd::Run(End::Ended) => line_with("ended retired ", retired, " events 0\n"),
         TopEnd::Run(End::WriteFault) => line_from("write fault", "", "\n"),
-        TopEnd::Usage => line_from("usage: run SOURCE SCRIPT INPUT FUEL KEY NONCE", "", "\n"),
+        TopEnd::Mean(end) => report_meaning(end),
+        TopEnd::Usage => line_from(USAGE_OF_RUN, USAGE_OF_MEAN, "\n"),
         TopEnd::TooLong(file) => line_from("too long: ", file_name(file), "\n"),
         TopEnd::Token(error) => report_token(error),
         TopEnd::Syntax(error) => report_syntax(error),
@@ -27,7 +34,20 @@ pub fn report_line(end: TopEnd, retired: u64) -> Line
         TopEnd::NotYet(file) => line_from("not yet ", file_name(file), "\n"),
         TopEnd::NoFile(file) => line_from("no file: ", file_name(file), "\n"),
         TopEnd::ReadFault => line_from("read fault", "", "\n"),
+        TopEnd::WriteFault => line_from("write fault", "", "\n"),
         TopEnd::OutOfMemory => line_from("out of memory", "", "\n"),
+    }
+}
+
+/// The line of a meaning that ends so.
+fn report_meaning(end: MeanEnd) -> Line
+    ensures { result.bytes ≡ meaning_line end }
+{
+    match end {
+        MeanEnd::Ended => line_from("ended", "", "\n"),
+        MeanEnd::Index { at } => line_with("index token ", at as u64, "\n"),
+        MeanEnd::Divide { at } => line_with("divide token ", at as u64, "\n"),
+        MeanEnd::Turns => line_from("turns", "", "\n"),
     }
 }
 

@@ -2,6 +2,7 @@ use crate::ends::{End, File, TopEnd};
 use crate::top::aegis;
 use aegis_edge::{MemFolder, MemSink};
 use aegis_num::OutOfMemory;
+use c_meaning::MeanEnd;
 use c_reader::SyntaxError;
 use c_token::TokenError;
 use c_types::TypeError;
@@ -175,7 +176,7 @@ fn fuel_and_notes(rt: HostRuntime) -> Result<(), Fail> {
             "33554433",
             TopEnd::Usage,
             "",
-            "usage: run SOURCE SCRIPT INPUT FUEL KEY NONCE\n",
+            "usage: run SOURCE SCRIPT INPUT FUEL KEY NONCE, mean SOURCE INPUT TURNS\n",
             true,
             1,
         ),
@@ -183,12 +184,87 @@ fn fuel_and_notes(rt: HostRuntime) -> Result<(), Fail> {
     ] {
         let mut folder = folder_of(alloc, &[])?;
         let mut sink = MemSink::with_room(alloc, 16, &[])?;
-        let mut notes = MemSink::with_room(alloc, if noted { 64 } else { 5 }, &[])?;
+        let mut notes = MemSink::with_room(alloc, if noted { 80 } else { 5 }, &[])?;
         let words = words_of(alloc, ["hi", "none", "none"], fuel)?;
         let finish = aegis(alloc, words.as_slice(), &mut folder, &mut sink, &mut notes);
         assert_eq!(rt; finish.end, end, "at {line}");
         assert_eq!(rt; finish.status, status, "at {line}");
         assert_eq!(rt; finish.noted, noted, "at {line}");
+        assert_eq!(rt; sink.bytes(), out.as_bytes(), "at {line}");
+        assert_eq!(rt; notes.bytes(), line.as_bytes(), "at {line}");
+    }
+    Ok(())
+}
+
+/// The words of a `mean` of this source with these turns.
+fn mean_words(alloc: Global, source: &str, turns: &str) -> Result<Vec<String>, AllocError> {
+    let mut words = Vec::new(alloc);
+    for word in ["mean", source, "input", turns] {
+        words.push(String::from_str(alloc, word)?)?;
+    }
+    Ok(words)
+}
+
+/// Each end of a meaning, and each answer that comes first.
+#[test]
+fn meanings(rt: HostRuntime) -> Result<(), Fail> {
+    let alloc = rt.alloc();
+    let ended = TopEnd::Mean(MeanEnd::Ended);
+    let index = TopEnd::Mean(MeanEnd::Index { at: 20 });
+    let divide = TopEnd::Mean(MeanEnd::Divide { at: 9 });
+    let turns = TopEnd::Mean(MeanEnd::Turns);
+    let no_main = TopEnd::Typing(TypeError::NoMain);
+    let absent = TopEnd::NoFile(File::Source);
+    let usage = "usage: run SOURCE SCRIPT INPUT FUEL KEY NONCE, mean SOURCE INPUT TURNS\n";
+    let whole: &[(u64, u64)] = &[];
+    for (source, most, reads, writes, end, out, line, status) in [
+        ("count", "3", 2, whole, ended, "abc", "ended\n", 0),
+        ("count", "2", 2, whole, turns, "ab", "turns\n", 30),
+        ("beyond", "0", 2, whole, index, "a", "index token 20\n", 10),
+        ("nought", "0", 2, whole, divide, "", "divide token 9\n", 11),
+        (
+            "count",
+            "3",
+            2,
+            &[(0, 2)],
+            TopEnd::WriteFault,
+            "ab",
+            "write fault\n",
+            5,
+        ),
+        ("empty", "0", 9, whole, no_main, "", "no main\n", 2),
+        ("gone", "0", 9, whole, absent, "", "no file: source\n", 4),
+        (
+            "count",
+            "0",
+            1,
+            whole,
+            TopEnd::ReadFault,
+            "",
+            "read fault\n",
+            4,
+        ),
+        ("count", "33554433", 9, whole, TopEnd::Usage, "", usage, 1),
+    ] {
+        let mut folder = MemFolder::new(alloc, &[reads])?;
+        folder.add(
+            "count",
+            b"int main(void){for(int i=input();i>=0;i=input())release(i);return 7;}",
+        )?;
+        folder.add(
+            "beyond",
+            b"int a[1];int main(void){release(input());a[1]=0;return 0;}",
+        )?;
+        folder.add("nought", b"int main(void){release(1/0);return 0;}")?;
+        folder.add("input", b"abc")?;
+        folder.add("empty", b"")?;
+        let mut sink = MemSink::with_room(alloc, 16, writes)?;
+        let mut notes = MemSink::with_room(alloc, 80, &[])?;
+        let words = mean_words(alloc, source, most)?;
+        let finish = aegis(alloc, words.as_slice(), &mut folder, &mut sink, &mut notes);
+        assert_eq!(rt; finish.end, end, "at {line}");
+        assert_eq!(rt; finish.status, status, "at {line}");
+        assert!(rt; finish.noted, "at {line}");
         assert_eq!(rt; sink.bytes(), out.as_bytes(), "at {line}");
         assert_eq!(rt; notes.bytes(), line.as_bytes(), "at {line}");
     }

@@ -2,22 +2,29 @@
 ghost use Rattle.std.specs.Prelude.{◌≡◌, ◌≢◌, ◌≤◌, ◌↔◌, ℕ, List, [], false, IsTrue, None, IfSome, length};
 ghost use Rattle.aegis_edge.specs.Faults.{Rose};
 ghost use Rattle.aegis_edge.specs.Sink.{Appends, AppendsFront};
-ghost use Rattle.aegis_run.specs.Words.{names_in};
-ghost use Rattle.aegis_run.specs.Answer.{Lacks, Exceeds, IsRefused, IsSurelyRefused, HoldsScript, IsRunOf, AreTold, IsRead, PassesSource, IsOrFails, RefusesScript, StartsRun, released, IsRetired};
+ghost use Rattle.c_evaluator.specs.Seen.{end_of};
+ghost use Rattle.c_plain.specs.Meaning.{Meaning};
+ghost use Rattle.c_plain.specs.States.{Ended};
+ghost use Rattle.aegis_run.specs.Words.{command_in};
+ghost use Rattle.aegis_run.specs.Answer.{Lacks, Exceeds, IsRefused, IsNotYet, IsScriptNotYet, RunMeans, MeanMeans, AreTold, IsOrFails, StartsRun, TellsMeaning, IsRetired};
+ghost use Rattle.aegis_run.specs.Opening.{IsWriteFault, Writes};
 ghost use Rattle.aegis_run.specs.Report.{line_of, status_of as status_of_answer};
 
 use crate::answer::answer_words;
 use crate::ends::{End, File, Finish, TopEnd, status_of};
 use crate::report::report_line;
 use aegis_edge::{Folder, Sink};
+use c_meaning::MeanEnd;
 use c_reader::{SyntaxError, one_program};
+use c_text::{refused_alike, resolved_alike};
 use c_token::TokenError;
 use c_types::TypeError;
 use std::alloc::Global;
 
-/// Does what the words behind the program's name say: `run SOURCE SCRIPT INPUT FUEL KEY NONCE` reads
-/// the three files from the folder, compiles the source and runs it. Released bytes go to `out`, and
-/// one line on the end to `notes`.
+/// Does what the words behind the program's name say. `run SOURCE SCRIPT INPUT FUEL KEY NONCE` reads the three
+/// files from the folder, compiles the source and runs it; each byte goes to `out` as it is released.
+/// `mean SOURCE INPUT TURNS` reads the two files and evaluates the source, with at most so many loop turns; its
+/// bytes go to `out` once it has ended. One line on the end goes to `notes`.
 pub fn aegis<F: Folder, K: Sink, N: Sink>(
     alloc: Global,
     words: &[String],
@@ -29,60 +36,60 @@ pub fn aegis<F: Folder, K: Sink, N: Sink>(
     requires notes_unlimited { N.limit notes.old ≡ None }
 
     // The words are no row of the command table.
-    ensures usage { (result.end ≡ TopEnd.Usage) ↔ (names_in words.now ≡ None) }
+    ensures usage { (result.end ≡ TopEnd.Usage) ↔ (command_in words.now ≡ None) }
 
     // A file that the words name is missing, is too long, or failed.
     ensures no_file { (file : File) → result.end ≡ TopEnd.NoFile file
-        → IfSome (names_in words.now) (λ names. Lacks names (F.files folder.old) file
+        → IfSome (command_in words.now) (λ command. Lacks command (F.files folder.old) file
         (F.faults folder.old) (F.faults folder.new)) }
     ensures too_long { (file : File) → result.end ≡ TopEnd.TooLong file
-        → IfSome (names_in words.now) (λ names. Exceeds names (F.files folder.old) file
+        → IfSome (command_in words.now) (λ command. Exceeds command (F.files folder.old) file
         (F.faults folder.old) (F.faults folder.new)) }
     ensures read_fault { result.end ≡ TopEnd.ReadFault
         → Rose (F.faults folder.old) (F.faults folder.new) }
 
-    // The source has no tokens, or these are no program, or it breaks a typing rule, or it is a program
-    // that is not run yet.
+    // The source has no tokens, or these are no program, or it breaks a typing rule.
     ensures token { (error : TokenError) → result.end ≡ TopEnd.Token error
-        → IfSome (names_in words.now) (λ names.
-        IsRefused (F.files folder.old) names (TopEnd.Token error)) }
-    ensures token_where { (error : TokenError) → IfSome (names_in words.now) (λ names.
-        AreTold (F.files folder.old) → IsRefused (F.files folder.old) names (TopEnd.Token error)
+        → IfSome (command_in words.now) (λ command.
+        IsRefused (F.files folder.old) command (TopEnd.Token error)) }
+    ensures token_where { (error : TokenError) → IfSome (command_in words.now) (λ command.
+        AreTold (F.files folder.old) → IsRefused (F.files folder.old) command (TopEnd.Token error)
         → IsOrFails (TopEnd.Token error) result.end) }
     ensures syntax { (error : SyntaxError) → result.end ≡ TopEnd.Syntax error
-        → IfSome (names_in words.now) (λ names.
-        IsRefused (F.files folder.old) names (TopEnd.Syntax error)) }
-    ensures syntax_where { (error : SyntaxError) → IfSome (names_in words.now) (λ names.
-        AreTold (F.files folder.old) → IsRefused (F.files folder.old) names (TopEnd.Syntax error)
+        → IfSome (command_in words.now) (λ command.
+        IsRefused (F.files folder.old) command (TopEnd.Syntax error)) }
+    ensures syntax_where { (error : SyntaxError) → IfSome (command_in words.now) (λ command.
+        AreTold (F.files folder.old) → IsRefused (F.files folder.old) command (TopEnd.Syntax error)
         → IsOrFails (TopEnd.Syntax error) result.end) }
     ensures typing { (error : TypeError) → result.end ≡ TopEnd.Typing error
-        → IfSome (names_in words.now) (λ names.
-        IsRefused (F.files folder.old) names (TopEnd.Typing error)) }
-    ensures typing_where { (error : TypeError) → IfSome (names_in words.now) (λ names.
-        AreTold (F.files folder.old)
-        → IsSurelyRefused (F.files folder.old) names (TopEnd.Typing error)
+        → IfSome (command_in words.now) (λ command.
+        IsRefused (F.files folder.old) command (TopEnd.Typing error)) }
+    ensures typing_where { (error : TypeError) → IfSome (command_in words.now) (λ command.
+        AreTold (F.files folder.old) → IsRefused (F.files folder.old) command (TopEnd.Typing error)
         → IsOrFails (TopEnd.Typing error) result.end) }
+
+    // The source of a run is a program that is not run yet, or its script holds a byte. No other file is
+    // one that asks for what is not built.
     ensures not_yet_source { result.end ≡ TopEnd.NotYet File.Source
-        → IfSome (names_in words.now) (λ names.
-        IsRefused (F.files folder.old) names (TopEnd.NotYet File.Source)) }
-    ensures not_yet_source_where { IfSome (names_in words.now) (λ names.
-        AreTold (F.files folder.old)
-        → IsSurelyRefused (F.files folder.old) names (TopEnd.NotYet File.Source)
+        → IfSome (command_in words.now) (IsNotYet (F.files folder.old)) }
+    ensures not_yet_source_where { IfSome (command_in words.now) (λ command.
+        AreTold (F.files folder.old) → IsNotYet (F.files folder.old) command
         → IsOrFails (TopEnd.NotYet File.Source) result.end) }
-
-    // The script holds a byte. No other file is one that asks for what is not built.
     ensures not_yet_script { result.end ≡ TopEnd.NotYet File.Script
-        → IfSome (names_in words.now) (λ names. HoldsScript (F.files folder.old) names) }
+        → IfSome (command_in words.now) (IsScriptNotYet (F.files folder.old)) }
+    ensures not_yet_script_where { IfSome (command_in words.now) (λ command.
+        AreTold (F.files folder.old) → IsScriptNotYet (F.files folder.old) command
+        → IsOrFails (TopEnd.NotYet File.Script) result.end) }
     ensures not_yet_input { result.end ≢ TopEnd.NotYet File.Input }
-    ensures not_yet_script_where { IfSome (names_in words.now) (λ names.
-        AreTold (F.files folder.old) → HoldsScript (F.files folder.old) names
-        → RefusesScript result.end) }
 
-    // A run is started exactly where the files were read and allow it. Want of memory has its own
-    // answer alone.
-    ensures run_where { IfSome (names_in words.now) (λ names. (literals : List ℕ)
-        → AreTold (F.files folder.old) → IsRunOf (F.files folder.old) names literals
+    // A run is started, and a meaning is told, exactly where the files were read and allow it. Want of
+    // memory has its own answer alone.
+    ensures run_where { IfSome (command_in words.now) (λ command. (meaning : Meaning)
+        → AreTold (F.files folder.old) → RunMeans (F.files folder.old) command meaning
         → StartsRun result.end) }
+    ensures mean_where { IfSome (command_in words.now) (λ command. (meaning : Meaning)
+        → AreTold (F.files folder.old) → MeanMeans (F.files folder.old) command meaning
+        → TellsMeaning meaning.end result.end) }
     ensures memory_token { result.end ≢ TopEnd.Token TokenError.OutOfMemory }
     ensures memory_syntax { result.end ≢ TopEnd.Syntax SyntaxError.OutOfMemory }
     ensures memory_typing { result.end ≢ TopEnd.Typing TypeError.OutOfMemory }
@@ -92,37 +99,47 @@ pub fn aegis<F: Folder, K: Sink, N: Sink>(
     ensures told_steady { AreTold (F.files folder.old)
         → result.end ≢ TopEnd.ReadFault → result.end ≢ TopEnd.OutOfMemory
         → F.faults folder.new ≡ F.faults folder.old }
-    ensures out_steady { result.end ≢ TopEnd.Run End.WriteFault
-        → K.faults out.new ≡ K.faults out.old }
-    ensures steady { (end : End) → result.end ≡ TopEnd.Run end
-        → F.faults folder.new ≡ F.faults folder.old }
+    ensures steady { Writes result.end → F.faults folder.new ≡ F.faults folder.old }
 
-    // What out took: all that the source releases, or a front of it; at each other answer nothing.
+    // What out took of a run: all that the source means on the input, or a front of it.
     ensures ended { result.end ≡ TopEnd.Run End.Ended
-        → IfSome (names_in words.now) (λ names. (literals : List ℕ)
-        × IsRunOf (F.files folder.old) names literals
-        × Appends (K.written out.old) (K.written out.new) (released literals)) }
+        → IfSome (command_in words.now) (λ command. (meaning : Meaning)
+        × RunMeans (F.files folder.old) command meaning × (meaning.end ≡ Ended)
+        × Appends (K.written out.old) (K.written out.new) meaning.traffic.bytes) }
     ensures cut_short { result.end ≡ TopEnd.Run End.WriteFault
-        → IfSome (names_in words.now) (λ names. (literals : List ℕ)
-        × IsRunOf (F.files folder.old) names literals
-        × AppendsFront (K.written out.old) (K.written out.new) (released literals)) }
-    ensures write_fault { result.end ≡ TopEnd.Run End.WriteFault
-        → Rose (K.faults out.old) (K.faults out.new) }
-    ensures silent { ((end : End) → result.end ≢ TopEnd.Run end)
-        → K.written out.new ≡ K.written out.old }
+        → IfSome (command_in words.now) (λ command. (meaning : Meaning)
+        × RunMeans (F.files folder.old) command meaning
+        × AppendsFront (K.written out.old) (K.written out.new) meaning.traffic.bytes) }
+
+    // What out took of a meaning: all its bytes, with its end as the answer, or a front of them.
+    ensures meant { (end : MeanEnd) → result.end ≡ TopEnd.Mean end
+        → IfSome (command_in words.now) (λ command. (meaning : Meaning)
+        × MeanMeans (F.files folder.old) command meaning × (end_of end ≡ meaning.end)
+        × Appends (K.written out.old) (K.written out.new) meaning.traffic.bytes) }
+    ensures meant_cut_short { result.end ≡ TopEnd.WriteFault
+        → IfSome (command_in words.now) (λ command. (meaning : Meaning)
+        × MeanMeans (F.files folder.old) command meaning
+        × AppendsFront (K.written out.old) (K.written out.new) meaning.traffic.bytes) }
+
+    // At each other answer out took nothing, and it failed exactly where an answer says so.
+    ensures silent { (Writes result.end → ⊥) → K.written out.new ≡ K.written out.old }
+    ensures write_fault { IsWriteFault result.end → Rose (K.faults out.old) (K.faults out.new) }
+    ensures out_steady { (IsWriteFault result.end → ⊥) → K.faults out.new ≡ K.faults out.old }
 
     // What notes took: the line of the answer, or a front of it where `noted` is false.
     ensures line { IsTrue result.noted → (retired : ℕ)
-        × IsRetired (names_in words.now) (F.files folder.old) result.end retired
+        × IsRetired (command_in words.now) (F.files folder.old) result.end retired
         × Appends (N.written notes.old) (N.written notes.new) (line_of result.end retired) }
     ensures line_cut { result.noted ≡ false → (retired : ℕ)
-        × IsRetired (names_in words.now) (F.files folder.old) result.end retired
+        × IsRetired (command_in words.now) (F.files folder.old) result.end retired
         × AppendsFront (N.written notes.old) (N.written notes.new) (line_of result.end retired) }
     ensures line_fault { result.noted ≡ false → Rose (N.faults notes.old) (N.faults notes.new) }
     ensures line_steady { IsTrue result.noted → N.faults notes.new ≡ N.faults notes.old }
     ensures status { result.status ≡ status_of_answer result.end result.noted }
 {
     one_program();
+    refused_alike();
+    resolved_alike();
     let outcome = answer_words(alloc, words, folder, out);
     noted(outcome.end, outcome.retired, notes)
 }

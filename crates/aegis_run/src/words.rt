@@ -1,32 +1,63 @@
 //! The words of the command line.
-ghost use Rattle.std.specs.Prelude.{◌≡◌, IsTrue};
+ghost use Rattle.std.specs.Prelude.{◌≡◌, IsTrue, map, string_bytes};
 ghost use Rattle.std.specs.List.{list_all};
 ghost use Rattle.std.specs.Char.{is_ascii_digit};
 ghost use Rattle.std.specs.Str.Parse.{digits_value};
 ghost use Rattle.std.specs.Option.{option_map};
-ghost use Rattle.aegis_run.specs.Opening.{names_of};
-ghost use Rattle.aegis_run.specs.Words.{names_in, is_number as is_number_word, is_fuel as is_fuel_word, is_hex};
+ghost use Rattle.aegis_run.specs.Opening.{command_of, mean_names_of, names_of};
+ghost use Rattle.aegis_run.specs.Words.{command_in, mean_row, run_row, is_bound as is_bound_word, is_number as is_number_word, is_hex};
 
 use aegis_num::limits::MAX_FUEL;
 use hex::FromHex;
 
-/// The file names of a `run` whose words are all in their ranges.
+/// The file names and the fuel of a `run` whose words are all in their ranges.
 #[derive(Clone, Copy)]
 pub struct RunWords<'a> {
     pub source: &'a str,
     pub script: &'a str,
     pub input: &'a str,
+    pub fuel: u64,
+}
+
+/// The file names of a `mean` whose words are all in their ranges, and the most loop turns.
+#[derive(Clone, Copy)]
+pub struct MeanWords<'a> {
+    pub source: &'a str,
+    pub input: &'a str,
+    pub turns: u64,
+}
+
+/// What words ask for.
+#[derive(Clone, Copy)]
+pub enum Command<'a> {
+    /// To compile a source and to run it.
+    Run(RunWords<'a>),
+    /// To say what a source means.
+    Mean(MeanWords<'a>),
+}
+
+/// Reads the words behind the program's name as a row of the table of commands.
+pub fn read_command(words: &[String]) -> Option<Command<'_>>
+    ensures { option_map command_of result ≡ command_in words.now }
+{
+    if let Some(names) = run_words(words) {
+        return Some(Command::Run(names));
+    }
+    match mean_words(words) {
+        Some(names) => Some(Command::Mean(names)),
+        None => None,
+    }
 }
 
 /// Reads the words behind the program's name as a `run`.
-pub fn run_words(words: &[String]) -> Option<RunWords<'_>>
-    ensures { option_map names_of result ≡ names_in words.now }
+fn run_words(words: &[String]) -> Option<RunWords<'_>>
+    ensures { option_map names_of result ≡ run_row (map string_bytes words.now) }
 {
     let [command, source, script, input, fuel, key, nonce] = words else {
         return None;
     };
     let fits = command.as_str() == "run"
-        && is_fuel(fuel.as_str())
+        && is_bound(fuel.as_str())
         && is_key(key.as_str())
         && is_nonce(nonce.as_str());
     if !fits {
@@ -36,12 +67,31 @@ pub fn run_words(words: &[String]) -> Option<RunWords<'_>>
         source: source.as_str(),
         script: script.as_str(),
         input: input.as_str(),
+        fuel: number_of(fuel.as_str()),
     })
 }
 
-/// Whether a word is a fuel: one to ten decimal digits of at most 33,554,432 events.
-fn is_fuel(word: &str) -> bool
-    ensures { result ≡ is_fuel_word word.now }
+/// Reads the words behind the program's name as a `mean`.
+fn mean_words(words: &[String]) -> Option<MeanWords<'_>>
+    ensures { option_map mean_names_of result ≡ mean_row (map string_bytes words.now) }
+{
+    let [command, source, input, turns] = words else {
+        return None;
+    };
+    let fits = command.as_str() == "mean" && is_bound(turns.as_str());
+    if !fits {
+        return None;
+    }
+    Some(MeanWords {
+        source: source.as_str(),
+        input: input.as_str(),
+        turns: number_of(turns.as_str()),
+    })
+}
+
+/// Whether a word is a fuel or a number of turns: one to ten decimal digits of at most 33,554,432.
+fn is_bound(word: &str) -> bool
+    ensures { result ≡ is_bound_word word.now }
 {
     is_number(word) && number_of(word) <= MAX_FUEL
 }

@@ -1,6 +1,6 @@
 use Rattle.std.proofs.Common.{◌≡◌, ◌+◌, ◌*◌, ◌∙◌, length, ap}
 use Rattle.std.proofs.lemmas.Result.{IfOk-weaker}
-use Rattle.aegis_run.specs.Answer.{released}
+use Rattle.aegis_run.specs.Literals.{released}
 use Rattle.aegis_run.specs.Code.{code_of}
 use Rattle.aegis_run.proofs.CodeLemmas.{compiled}
 use Rattle.aegis_run.proofs.answer.execute.Goals as goal

@@ -1,65 +1,84 @@
-use Rattle.std.proofs.Common.{ℕ, Option, None, Some, List, IfSome, sym, subst}
+use Rattle.std.proofs.Common.{ℕ, Option, None, Some, IfSome, sym, subst}
 use Rattle.aegis_edge.specs.Folder.{Files}
-use Rattle.c_reader.specs.Refusals.{OneProgram}
-use Rattle.aegis_run.specs.declared.ends.File.TheVariants.{Source}
+use Rattle.c_plain.specs.Meaning.{Meaning}
+use Rattle.aegis_run.specs.declared.ends.File.TheVariants.{Source, Script}
 use Rattle.aegis_run.specs.declared.ends.TopEnd.{TopEnd}
 use Rattle.aegis_run.specs.declared.ends.TopEnd.TheVariants.{Token, Syntax, Typing, NotYet}
-use Rattle.aegis_run.specs.Words.{RunNames, names_in}
-use Rattle.aegis_run.specs.Answer.{AreTold, IsRefused, IsSurelyRefused, SourceFault, SureFault, HoldsScript, IsRunOf, Cause, Sends, IsOrFails, RefusesScript, StartsRun}
-use Rattle.aegis_run.proofs.AnswerLemmas.{refuses_source, refuses_script, starts_run, sends_nothing}
+use Rattle.aegis_run.specs.Words.{Command, command_in}
+use Rattle.aegis_run.specs.Answer.{AreTold, IsRefused, IsNotYet, IsScriptNotYet, RunMeans, MeanMeans, Cause, Sends, IsOrFails, StartsRun, TellsMeaning}
+use Rattle.aegis_run.proofs.SourceLemmas.{Laws}
+use Rattle.aegis_run.proofs.AnswerLemmas.{refuses_source, not_yet, script_not_yet, starts_run, tells_meaning, sends_nothing}
 use Rattle.aegis_run.proofs.top.aegis.Goals as goal
 
-where_refused : (row : Option RunNames) (files : Option Files) (before now : ℕ) (end expected : TopEnd) → OneProgram → Cause row files before now end
-    → IfSome row (λ names. AreTold files → IsSurelyRefused files names expected → IsOrFails expected end)
-where_refused None files before now end expected one cause = tt
-where_refused (Some names) files before now end expected one cause = λ told refused. refuses_source one files names before now expected end told refused cause
+where_refused : (row : Option Command) (files : Option Files) (before now : ℕ) (end expected : TopEnd) → Laws → Cause row files before now end
+    → IfSome row (λ command. AreTold files → IsRefused files command expected → IsOrFails expected end)
+where_refused None files before now end expected laws cause = tt
+where_refused (Some command) files before now end expected laws cause = λ told refused. refuses_source laws files command before now expected end told refused cause
 
-where_plainly : (row : Option RunNames) (files : Option Files) (before now : ℕ) (end expected : TopEnd) → ((text : List ℕ) → SourceFault text expected → SureFault text expected)
-    → OneProgram → Cause row files before now end → IfSome row (λ names. AreTold files → IsRefused files names expected → IsOrFails expected end)
-where_plainly None files before now end expected sure one cause = tt
-where_plainly (Some names) files before now end expected sure one cause = λ told refused.
-    refuses_source one files names before now expected end told (record { text = refused.text; read = refused.read; fault = sure refused.text refused.fault }) cause
+where_not_yet : (row : Option Command) (files : Option Files) (before now : ℕ) (end : TopEnd) → Laws → Cause row files before now end
+    → IfSome row (λ command. AreTold files → IsNotYet files command → IsOrFails (NotYet Source) end)
+where_not_yet None files before now end laws cause = tt
+where_not_yet (Some command) files before now end laws cause = λ told source. not_yet laws files command before now end told source cause
 
-where_held : (row : Option RunNames) (files : Option Files) (before now : ℕ) (end : TopEnd) → OneProgram → Cause row files before now end
-    → IfSome row (λ names. AreTold files → HoldsScript files names → RefusesScript end)
-where_held None files before now end one cause = tt
-where_held (Some names) files before now end one cause = λ told holds. refuses_script one files names before now end told holds cause
+where_held : (row : Option Command) (files : Option Files) (before now : ℕ) (end : TopEnd) → Laws → Cause row files before now end
+    → IfSome row (λ command. AreTold files → IsScriptNotYet files command → IsOrFails (NotYet Script) end)
+where_held None files before now end laws cause = tt
+where_held (Some command) files before now end laws cause = λ told holds. script_not_yet laws files command before now end told holds cause
 
-where_run : (row : Option RunNames) (files : Option Files) (before now : ℕ) (end : TopEnd) → OneProgram → Cause row files before now end
-    → IfSome row (λ names. (literals : List ℕ) → AreTold files → IsRunOf files names literals → StartsRun end)
-where_run None files before now end one cause = tt
-where_run (Some names) files before now end one cause = λ literals told run. starts_run one files names literals before now end told run cause
+where_run : (row : Option Command) (files : Option Files) (before now : ℕ) (end : TopEnd) → Laws → Cause row files before now end
+    → IfSome row (λ command. (meaning : Meaning) → AreTold files → RunMeans files command meaning → StartsRun end)
+where_run None files before now end laws cause = tt
+where_run (Some command) files before now end laws cause = λ meaning told means. starts_run laws files command meaning before now end told means cause
+
+where_mean : (row : Option Command) (files : Option Files) (before now : ℕ) (end : TopEnd) → Laws → Cause row files before now end
+    → IfSome row (λ command. (meaning : Meaning) → AreTold files → MeanMeans files command meaning → TellsMeaning meaning.end end)
+where_mean None files before now end laws cause = tt
+where_mean (Some command) files before now end laws cause = λ meaning told means. tells_meaning laws files command meaning before now end told means cause
 
 pub returns-clause-token_where : goal.returns-clause-token_where
 returns-clause-token_where g c = λ error.
-    where_plainly (names_in c.args.words.now) (g.F.Folder.files c.args.folder.now) _ _ c.noted.result.end (Token error) (λ text fault. fault) c.one_program.ensures.one
+    where_refused (command_in c.args.words.now) (g.F.Folder.files c.args.folder.now) _ _ c.noted.result.end (Token error)
+    (record { one = c.one_program.ensures.one; refused = c.refused_alike.ensures.refused; resolved = c.resolved_alike.ensures.resolved })
     (subst (Cause _ _ _ _) (sym c.noted.ensures.end) c.answer_words-outcome.ensures.cause)
 
 pub returns-clause-syntax_where : goal.returns-clause-syntax_where
 returns-clause-syntax_where g c = λ error.
-    where_plainly (names_in c.args.words.now) (g.F.Folder.files c.args.folder.now) _ _ c.noted.result.end (Syntax error) (λ text fault. fault) c.one_program.ensures.one
+    where_refused (command_in c.args.words.now) (g.F.Folder.files c.args.folder.now) _ _ c.noted.result.end (Syntax error)
+    (record { one = c.one_program.ensures.one; refused = c.refused_alike.ensures.refused; resolved = c.resolved_alike.ensures.resolved })
     (subst (Cause _ _ _ _) (sym c.noted.ensures.end) c.answer_words-outcome.ensures.cause)
 
 pub returns-clause-typing_where : goal.returns-clause-typing_where
 returns-clause-typing_where g c = λ error.
-    where_refused (names_in c.args.words.now) (g.F.Folder.files c.args.folder.now) _ _ c.noted.result.end (Typing error) c.one_program.ensures.one
+    where_refused (command_in c.args.words.now) (g.F.Folder.files c.args.folder.now) _ _ c.noted.result.end (Typing error)
+    (record { one = c.one_program.ensures.one; refused = c.refused_alike.ensures.refused; resolved = c.resolved_alike.ensures.resolved })
     (subst (Cause _ _ _ _) (sym c.noted.ensures.end) c.answer_words-outcome.ensures.cause)
 
 pub returns-clause-not_yet_source_where : goal.returns-clause-not_yet_source_where
 returns-clause-not_yet_source_where g c =
-    where_refused (names_in c.args.words.now) (g.F.Folder.files c.args.folder.now) _ _ c.noted.result.end (NotYet Source) c.one_program.ensures.one
+    where_not_yet (command_in c.args.words.now) (g.F.Folder.files c.args.folder.now) _ _ c.noted.result.end
+    (record { one = c.one_program.ensures.one; refused = c.refused_alike.ensures.refused; resolved = c.resolved_alike.ensures.resolved })
     (subst (Cause _ _ _ _) (sym c.noted.ensures.end) c.answer_words-outcome.ensures.cause)
 
 pub returns-clause-not_yet_script_where : goal.returns-clause-not_yet_script_where
 returns-clause-not_yet_script_where g c =
-    where_held (names_in c.args.words.now) (g.F.Folder.files c.args.folder.now) _ _ c.noted.result.end c.one_program.ensures.one (subst (Cause _ _ _ _) (sym c.noted.ensures.end) c.answer_words-outcome.ensures.cause)
+    where_held (command_in c.args.words.now) (g.F.Folder.files c.args.folder.now) _ _ c.noted.result.end
+    (record { one = c.one_program.ensures.one; refused = c.refused_alike.ensures.refused; resolved = c.resolved_alike.ensures.resolved })
+    (subst (Cause _ _ _ _) (sym c.noted.ensures.end) c.answer_words-outcome.ensures.cause)
 
 pub returns-clause-run_where : goal.returns-clause-run_where
 returns-clause-run_where g c =
-    where_run (names_in c.args.words.now) (g.F.Folder.files c.args.folder.now) _ _ c.noted.result.end c.one_program.ensures.one (subst (Cause _ _ _ _) (sym c.noted.ensures.end) c.answer_words-outcome.ensures.cause)
+    where_run (command_in c.args.words.now) (g.F.Folder.files c.args.folder.now) _ _ c.noted.result.end
+    (record { one = c.one_program.ensures.one; refused = c.refused_alike.ensures.refused; resolved = c.resolved_alike.ensures.resolved })
+    (subst (Cause _ _ _ _) (sym c.noted.ensures.end) c.answer_words-outcome.ensures.cause)
+
+pub returns-clause-mean_where : goal.returns-clause-mean_where
+returns-clause-mean_where g c =
+    where_mean (command_in c.args.words.now) (g.F.Folder.files c.args.folder.now) _ _ c.noted.result.end
+    (record { one = c.one_program.ensures.one; refused = c.refused_alike.ensures.refused; resolved = c.resolved_alike.ensures.resolved })
+    (subst (Cause _ _ _ _) (sym c.noted.ensures.end) c.answer_words-outcome.ensures.cause)
 
 pub returns-clause-silent : goal.returns-clause-silent
-returns-clause-silent g c = λ none.
-    sends_nothing (names_in c.args.words.now) (g.F.Folder.files c.args.folder.now) c.noted.result.end _ _ none
-    (let P : TopEnd → Type 0 = λ end. Sends (names_in c.args.words.now) (g.F.Folder.files c.args.folder.now) end (g.K.Sink.written c.args.out.now) (g.K.Sink.written c.answer_words-outcome.new.out) in
+returns-clause-silent g c = λ unwritten.
+    sends_nothing (command_in c.args.words.now) (g.F.Folder.files c.args.folder.now) c.noted.result.end _ _ unwritten
+    (let P : TopEnd → Type 0 = λ end. Sends (command_in c.args.words.now) (g.F.Folder.files c.args.folder.now) end (g.K.Sink.written c.args.out.now) (g.K.Sink.written c.answer_words-outcome.new.out) in
     subst P (sym c.noted.ensures.end) c.answer_words-outcome.ensures.sends)

@@ -1,0 +1,62 @@
+-- What a file that is not read, and a meaning that was told, are causes of.
+use Rattle.std.proofs.Common.{◌≡◌, ℕ, List, [], Option, Some, refl, sym, subst}
+use Rattle.aegis_edge.specs.Folder.{Files}
+use Rattle.c_grammar.specs.declared.item.Program.{Program}
+use Rattle.c_meaning.specs.Resolving.{program_in}
+use Rattle.c_plain.specs.Meaning.{Meaning, mean_alone}
+use Rattle.aegis_run.specs.declared.ends.File.{File}
+use Rattle.aegis_run.specs.declared.ends.File.TheVariants.{Script, Input}
+use Rattle.aegis_run.specs.declared.ends.TopEnd.{TopEnd}
+use Rattle.aegis_run.specs.declared.ends.TopEnd.TheVariants.{Run, Mean, Usage, TooLong, Token, Syntax, Typing, NotYet, NoFile, ReadFault, WriteFault, OutOfMemory}
+use Rattle.aegis_run.specs.Words.{RunNames, MeanNames, Command}
+use Rattle.aegis_run.specs.Words as asks
+use Rattle.aegis_run.specs.Literals.{literals_of, released}
+use Rattle.aegis_run.specs.Answer.{name_for, turns_for, IsRead, IsAccepted, Lacks, Exceeds, IsReached, MeansFrom, CauseOf}
+use Rattle.aegis_run.specs.Opening.{OpenCause, IsReady, SendsMeaning}
+use Rattle.aegis_run.proofs.MeaningLemmas.{literals_mean}
+
+-- why a file is not read is why the command is not done
+pub open_cause : (files : Option Files) (command : Command) (file : File) (before now : ℕ) (end : TopEnd) → IsReached files command file
+    → OpenCause files (name_for command file) file before now end → CauseOf command files before now end
+open_cause files command file before now (NoFile named) reached cause =
+    let P : File → Type 0 = λ named. Lacks command files named before now in subst P (sym cause.0) (reached, cause.1)
+open_cause files command file before now (TooLong named) reached cause =
+    let P : File → Type 0 = λ named. Exceeds command files named before now in subst P (sym cause.0) (reached, cause.1)
+open_cause files command file before now ReadFault reached cause = cause
+open_cause files command file before now OutOfMemory reached cause = tt
+open_cause files command file before now Usage reached cause = absurd cause
+open_cause files command file before now (Token error) reached cause = absurd cause
+open_cause files command file before now (Syntax error) reached cause = absurd cause
+open_cause files command file before now (Typing error) reached cause = absurd cause
+open_cause files command file before now (NotYet named) reached cause = absurd cause
+open_cause files command file before now WriteFault reached cause = absurd cause
+open_cause files command file before now (Run end) reached cause = absurd cause
+open_cause files command file before now (Mean end) reached cause = absurd cause
+
+-- what a meaning put into a sink tells why it was answered
+pub meaning_cause : (files : Option Files) (names : MeanNames) (m : Meaning) (before now : ℕ) (old new : Option (List ℕ)) (end : TopEnd) → MeansFrom files (asks.Mean names) m
+    → SendsMeaning end old new m → CauseOf (asks.Mean names) files before now end
+meaning_cause files names m before now old new (Mean end) means sends = (m, means, sends.0)
+meaning_cause files names m before now old new WriteFault means sends = (m, means)
+meaning_cause files names m before now old new OutOfMemory means sends = tt
+meaning_cause files names m before now old new ReadFault means sends = absurd sends
+meaning_cause files names m before now old new Usage means sends = absurd sends
+meaning_cause files names m before now old new (TooLong file) means sends = absurd sends
+meaning_cause files names m before now old new (NoFile file) means sends = absurd sends
+meaning_cause files names m before now old new (Token error) means sends = absurd sends
+meaning_cause files names m before now old new (Syntax error) means sends = absurd sends
+meaning_cause files names m before now old new (Typing error) means sends = absurd sends
+meaning_cause files names m before now old new (NotYet file) means sends = absurd sends
+meaning_cause files names m before now old new (Run end) means sends = absurd sends
+
+-- where the files of a run were read, it means what its literals release
+pub ready : (files : Option Files) (names : RunNames) (p : Program) (literals input : List ℕ) → IsAccepted files names.source p → literals_of p ≡ Some literals
+    → IsRead files names.script Script [] → IsRead files names.input Input input → IsReady files (asks.Run names) (released literals)
+ready files names p literals input accepted found script input_read =
+    let command : Command = asks.Run names in
+    let means = literals_mean p literals input (turns_for command) found in (
+      mean_alone (program_in p) input (turns_for command),
+      record { program = p; accepted = accepted; suits = (literals, found); script_read = script; input = input; input_read = input_read; meaning_is = refl },
+      means.0,
+      means.1,
+    )
