@@ -192,11 +192,18 @@ class Maker:
 
     def local(self):
         self.locals += 1
-        name = self.new_name()
-        self.put(f"{self.kind_of_type()} {name}")
-        if self.likely(0.75):
-            self.put("=")
+        outer = [thing.name for thing in self.variables(False) if thing.name not in self.scopes[-1]]
+        if outer and self.likely(0.15):  # its own value is of the outer one
+            name = self.chance.choice(outer)
+            self.put(f"{self.kind_of_type()} {name} = {name} +")
+            self.operand(2)
+        elif self.likely(0.75):
+            name = self.new_name()
+            self.put(f"{self.kind_of_type()} {name} =")
             self.expression(2)
+        else:
+            name = self.new_name()
+            self.put(f"{self.kind_of_type()} {name}")
         self.declare(name, kind="local", length=None, held=False)
 
     def variables(self, array, kinds=("local", "object")):
