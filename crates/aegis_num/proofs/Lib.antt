@@ -1,1 +1,2 @@
+mod NameRooms
 mod OperatorExamples

@@ -1,1 +1,2 @@
+pub mod NameRoom
 pub mod Operators

@@ -4,14 +4,11 @@
 
 pub mod limits;
 mod memory;
+mod name;
 mod operators;
 mod storage;
 
-use arrayvec::ArrayString;
-use limits::MAX_NAME_BYTES;
 pub use memory::OutOfMemory;
+pub use name::Name;
 pub use operators::{BinaryOp, UnaryOp};
 pub use storage::{Block, Key, Keys, Place};
-
-/// A name of the source language, at most 31 bytes long. It lies in the value itself and takes no memory.
-pub type Name = ArrayString<MAX_NAME_BYTES>;
