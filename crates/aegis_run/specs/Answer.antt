@@ -7,8 +7,8 @@ use Rattle.aegis_edge.specs.Sink.{Appends, AppendsFront}
 use Rattle.c_evaluator.specs.Seen.{end_of}
 use Rattle.c_grammar.specs.declared.item.Program.{Program}
 use Rattle.c_meaning.specs.Resolving.{program_in}
-use Rattle.c_plain.specs.Meaning.{Meaning, mean_alone}
-use Rattle.c_plain.specs.States as outcome
+use Rattle.c_semantics.specs.Meaning.{Meaning, mean_alone}
+use Rattle.c_semantics.specs.States as outcome
 use Rattle.c_reader.specs.declared.error.SyntaxError.TheVariants as syntax
 use Rattle.c_token.specs.declared.kinds.TokenError.TheVariants as token
 use Rattle.c_types.specs.declared.error.TypeError.TheVariants as type

@@ -18,8 +18,8 @@ use Rattle.aegis_run.specs.Answer.{IsAbsent, IsOverlong, RunMeans, SourceFault}
 use Rattle.aegis_run.specs.declared.ends.End.TheVariants as run
 use Rattle.aegis_edge.specs.Sink.{Appends, AppendsFront}
 use Rattle.c_evaluator.specs.Seen.{end_of}
-use Rattle.c_plain.specs.Meaning.{Meaning}
-use Rattle.c_plain.specs.States as outcome
+use Rattle.c_semantics.specs.Meaning.{Meaning}
+use Rattle.c_semantics.specs.States as outcome
 
 -- why a file is not read, and which answer says so
 abbrev pub OpenCause : Option Files → List ℕ → File → ℕ → ℕ → TopEnd → Type 0

@@ -3,7 +3,7 @@ ghost use Rattle.std.specs.Prelude.{◌≡◌, ◌≢◌, ◌+◌, ◌*◌, ◌^
 ghost use Rattle.std.specs.List.{AllByRecursion};
 ghost use Rattle.aegis_edge.specs.Faults.{Rose};
 ghost use Rattle.c_meaning.specs.Resolving.{program_in};
-ghost use Rattle.c_plain.specs.Meaning.{mean_alone};
+ghost use Rattle.c_semantics.specs.Meaning.{mean_alone};
 ghost use Rattle.aegis_run.specs.Words.{command_in};
 ghost use Rattle.aegis_run.specs.Words as asks;
 ghost use Rattle.aegis_run.specs.Answer.{Cause, CauseOf, AreTold, Sends, IsRetired};

@@ -3,8 +3,8 @@ ghost use Rattle.std.specs.Prelude.{◌≡◌, ◌≢◌, ◌≤◌, ◌↔◌, 
 ghost use Rattle.aegis_edge.specs.Faults.{Rose};
 ghost use Rattle.aegis_edge.specs.Sink.{Appends, AppendsFront};
 ghost use Rattle.c_evaluator.specs.Seen.{end_of};
-ghost use Rattle.c_plain.specs.Meaning.{Meaning};
-ghost use Rattle.c_plain.specs.States.{Ended};
+ghost use Rattle.c_semantics.specs.Meaning.{Meaning};
+ghost use Rattle.c_semantics.specs.States.{Ended};
 ghost use Rattle.aegis_run.specs.Words.{command_in};
 ghost use Rattle.aegis_run.specs.Answer.{Lacks, Exceeds, IsRefused, IsNotYet, IsScriptNotYet, RunMeans, MeanMeans, AreTold, IsOrFails, StartsRun, TellsMeaning, IsRetired};
 ghost use Rattle.aegis_run.specs.Opening.{IsWriteFault, Writes};

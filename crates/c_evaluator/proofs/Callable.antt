@@ -2,10 +2,10 @@
 use Rattle.std.proofs.Common.{◌≡◌, ◌≢◌, ℕ, zero, suc, ◌+◌, ◌<◌, ◌≤◌, ◌==◌, ◌⊎◌, inl, inr, true, false, List, [], ◌∷◌, length, take, Option, Some, None, arith, refl, ◌∙◌, ap, subst}
 use Rattle.std.specs.Prelude.{slice_get}
 use Rattle.std.proofs.lemmas.Bool.Decides.{nat_tests}
-use Rattle.c_plain.specs.declared.tree.Function.{Function}
-use Rattle.c_plain.specs.States.{State, Outcome, GoesOn, choose}
-use Rattle.c_plain.specs.Meaning.{Calls, called, with_function, no_calls, calls_from}
-use Rattle.c_plain.specs.Views.{function_of, functions_of}
+use Rattle.c_semantics.specs.declared.tree.Function.{Function}
+use Rattle.c_semantics.specs.States.{State, Outcome, GoesOn, choose}
+use Rattle.c_semantics.specs.Meaning.{Calls, called, with_function, no_calls, calls_from}
+use Rattle.c_semantics.specs.Views.{function_of, functions_of}
 use Rattle.c_evaluator.specs.Calls.{callable}
 use Rattle.c_evaluator.specs.Seen.{bare}
 

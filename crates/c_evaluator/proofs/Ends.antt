@@ -2,11 +2,11 @@
 use Rattle.std.proofs.Common.{◌≡◌, ◌∙◌, ℕ, List, [], sym, ap, Err, Ok, arith}
 use Rattle.std.specs.declared.result.Result.{Result}
 use Rattle.aegis_num.specs.declared.memory.OutOfMemory.{OutOfMemory}
-use Rattle.c_plain.specs.Tree
-use Rattle.c_plain.specs.States.{State, Outcome, then}
-use Rattle.c_plain.specs.Meaning.{meaning_of, outcome_of, mean, mean_alone, no_class}
-use Rattle.c_plain.specs.Laws.{IsSameButNotes}
-use Rattle.c_plain.specs.LawProofs.{noting_changes_nothing_else}
+use Rattle.c_semantics.specs.Tree
+use Rattle.c_semantics.specs.States.{State, Outcome, then}
+use Rattle.c_semantics.specs.Meaning.{meaning_of, outcome_of, mean, mean_alone, no_class}
+use Rattle.c_semantics.specs.Laws.{IsSameButNotes}
+use Rattle.c_semantics.specs.LawProofs.{noting_changes_nothing_else}
 use Rattle.c_evaluator.specs.declared.mean_end.MeanEnd.{MeanEnd}
 use Rattle.c_evaluator.specs.declared.fault.Fault.{Fault}
 use Rattle.c_evaluator.specs.declared.fault.Fault.TheVariants as fault

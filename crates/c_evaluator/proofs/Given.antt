@@ -1,8 +1,8 @@
 -- Parameters get their arguments one by one.
 use Rattle.std.proofs.Common.{◌≡◌, ℕ, zero, suc, ◌<◌, ◌≤◌, min, List, [], ◌∷◌, length, drop, slice_index_or, arith, refl}
-use Rattle.c_plain.specs.declared.tree.Variable.{Variable}
-use Rattle.c_plain.specs.States.{State, write}
-use Rattle.c_plain.specs.Meaning.{given}
+use Rattle.c_semantics.specs.declared.tree.Variable.{Variable}
+use Rattle.c_semantics.specs.States.{State, write}
+use Rattle.c_semantics.specs.Meaning.{given}
 use Rattle.c_evaluator.specs.Seen.{bare}
 
 pub given-step : (ps : List Variable) (ws : List ℕ) (i : ℕ) (p : Variable) (w : ℕ) (s : State) → i < length ps → i < length ws → p ≡ slice_index_or ps i p → w ≡ slice_index_or ws i w →

@@ -1,10 +1,10 @@
 -- Parts are smaller than what they are parts of.
 use Rattle.std.proofs.Common.{◌≡◌, ℕ, zero, suc, ◌+◌, ◌<◌, List, [], ◌∷◌, length, take, slice_index_or, Option, Some, None, arith, ap, sym, subst}
 use Rattle.std.specs.Prelude.{slice_get}
-use Rattle.c_plain.specs.declared.tree.Function.{Function}
-use Rattle.c_plain.specs.declared.tree.Expr.{Expr}
-use Rattle.c_plain.specs.declared.tree.Stmt.{Stmt}
-use Rattle.c_plain.specs.Views.{expr_of, exprs_of, stmt_of, stmts_of}
+use Rattle.c_semantics.specs.declared.tree.Function.{Function}
+use Rattle.c_semantics.specs.declared.tree.Expr.{Expr}
+use Rattle.c_semantics.specs.declared.tree.Stmt.{Stmt}
+use Rattle.c_semantics.specs.Views.{expr_of, exprs_of, stmt_of, stmts_of}
 use Rattle.c_evaluator.specs.Calls.{expr_size, arguments_size, stmt_size, functions_size}
 
 statement-smaller : (ss : List Stmt) (k : ℕ) (d : Stmt) → k < length ss → stmt_size (stmt_of (slice_index_or ss k d)) < stmt_size (stmts_of ss)

@@ -1,12 +1,12 @@
 -- What the functions of a program do when they are called, and how large programs are.
 use Rattle.std.specs.Prelude.{ℕ, ◌+◌, List, [], ◌∷◌, Option, Some, None}
-use Rattle.c_plain.specs.declared.tree.Function.{Function}
-use Rattle.c_plain.specs.declared.tree.Expr.{Expr}
-use Rattle.c_plain.specs.declared.tree.Stmt.{Stmt}
-use Rattle.c_plain.specs.Tree
-use Rattle.c_plain.specs.States.{State, Outcome}
-use Rattle.c_plain.specs.Meaning.{Calls, calls_of, turn, Turn, condition, meaning}
-use Rattle.c_plain.specs.Views.{functions_of, stmt_of, stmts_of, part_of, branch_of}
+use Rattle.c_semantics.specs.declared.tree.Function.{Function}
+use Rattle.c_semantics.specs.declared.tree.Expr.{Expr}
+use Rattle.c_semantics.specs.declared.tree.Stmt.{Stmt}
+use Rattle.c_semantics.specs.Tree
+use Rattle.c_semantics.specs.States.{State, Outcome}
+use Rattle.c_semantics.specs.Meaning.{Calls, calls_of, turn, Turn, condition, meaning}
+use Rattle.c_semantics.specs.Views.{functions_of, stmt_of, stmts_of, part_of, branch_of}
 use Rattle.c_evaluator.specs.Seen.{bare}
 
 -- the calls of these functions

@@ -2,12 +2,12 @@
 use Rattle.std.specs.Prelude.{ℕ, ◌≡◌, false, List, [], length, slice_index, slice_index_or, drop, cond, ◌==◌, Ok, Err, IsErr}
 use Rattle.std.specs.declared.result.Result.{Result}
 use Rattle.aegis_num.specs.declared.memory.OutOfMemory.{OutOfMemory}
-use Rattle.c_plain.specs.States.{State, Setting, Outcome, GoesOn, EndsAs, End, Ended, Index, Divide, Turns}
+use Rattle.c_semantics.specs.States.{State, Setting, Outcome, GoesOn, EndsAs, End, Ended, Index, Divide, Turns}
 use Rattle.c_evaluator.specs.declared.machine.Machine.{Machine}
 use Rattle.execution.specs.Traffic.{traffic_from}
-use Rattle.c_plain.specs.Tree
-use Rattle.c_plain.specs.Meaning
-use Rattle.c_plain.specs.Meaning.{no_class, first_memory}
+use Rattle.c_semantics.specs.Tree
+use Rattle.c_semantics.specs.Meaning
+use Rattle.c_semantics.specs.Meaning.{no_class, first_memory}
 use Rattle.std.proofs.Common.{Vec, Global}
 use Rattle.c_evaluator.specs.declared.flow.Flow.{Flow}
 use Rattle.c_evaluator.specs.declared.flow.Flow.TheVariants as flow

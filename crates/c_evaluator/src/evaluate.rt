@@ -2,9 +2,9 @@
 ghost use Rattle.std.specs.Prelude.{◌≡◌, not, ◌==◌, OnOk, IfErr};
 ghost use Rattle.std.specs.Option.{option_copied};
 ghost use Rattle.aegis_num.specs.Operators.{truth};
-ghost use Rattle.c_plain.specs.States as states;
-ghost use Rattle.c_plain.specs.Meaning.{value, values, meaning, loop, value_or_zero, condition, result_of, given};
-ghost use Rattle.c_plain.specs.Views.{expr_of, exprs_of, stmt_of, stmts_of, branch_of, part_of};
+ghost use Rattle.c_semantics.specs.States as states;
+ghost use Rattle.c_semantics.specs.Meaning.{value, values, meaning, loop, value_or_zero, condition, result_of, given};
+ghost use Rattle.c_semantics.specs.Views.{expr_of, exprs_of, stmt_of, stmts_of, branch_of, part_of};
 ghost use Rattle.c_evaluator.specs.Calls.{callable, one_turn};
 ghost use Rattle.c_evaluator.specs.Seen.{bare, seen, flow_of, Does, DoesWords, DoesFlow, DoesTurn};
 
@@ -12,7 +12,7 @@ use crate::fault::Fault;
 use crate::flow::{Flow, Turn};
 use crate::machine::Machine;
 use aegis_num::BinaryOp;
-use c_plain::{Expr, Function, Stmt, Variable};
+use c_semantics::{Expr, Function, Stmt, Variable};
 use sqlite_items::{Boxed, at};
 
 /// The value of an expression, where these functions can be called.

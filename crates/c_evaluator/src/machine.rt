@@ -1,12 +1,12 @@
 //! What an evaluation keeps.
 ghost use Rattle.std.specs.Prelude.{◌≡◌, ℕ, ◌<◌, [], length, slice_index, OnOk, IfErr, IfOk};
 ghost use Rattle.execution.specs.Traffic.{next_of};
-ghost use Rattle.c_plain.specs.States.{Outcome, GoesOn, taking_input, releasing, begin_turn, within, write};
-ghost use Rattle.c_plain.specs.Views.{objects_of};
+ghost use Rattle.c_semantics.specs.States.{Outcome, GoesOn, taking_input, releasing, begin_turn, within, write};
+ghost use Rattle.c_semantics.specs.Views.{objects_of};
 ghost use Rattle.c_evaluator.specs.Seen.{bare, memory_of, placed, seen, started, Does};
 
 use crate::fault::Fault;
-use c_plain::{Object, Variable};
+use c_semantics::{Object, Variable};
 use sqlite_items::Items;
 use std::alloc::{AllocError, Global};
 

@@ -1,7 +1,7 @@
 //! Whole programs.
 ghost use Rattle.std.specs.Prelude.{◌≡◌, ◌++◌, IfOk, OnOk, OnErr};
-ghost use Rattle.c_plain.specs.Meaning.{mean_alone};
-ghost use Rattle.c_plain.specs.Views.{program_of};
+ghost use Rattle.c_semantics.specs.Meaning.{mean_alone};
+ghost use Rattle.c_semantics.specs.Views.{program_of};
 ghost use Rattle.c_evaluator.specs.Seen.{end_of, EndsSo};
 
 use crate::evaluate::call;
@@ -9,7 +9,7 @@ use crate::fault::Fault;
 use crate::machine::Machine;
 use crate::mean_end::MeanEnd;
 use aegis_num::OutOfMemory;
-use c_plain::Program;
+use c_semantics::Program;
 use std::alloc::Global;
 
 /// Runs a program whose names are resolved on an input, with at most so many loop turns in all, and appends the bytes that

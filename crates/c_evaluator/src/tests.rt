@@ -1,6 +1,6 @@
 use crate::{MeanEnd, mean_resolved};
 use aegis_num::{BinaryOp, OutOfMemory};
-use c_plain::{Expr, Function, Object, Program, Stmt, Variable};
+use c_semantics::{Expr, Function, Object, Program, Stmt, Variable};
 use sqlite_items::{Boxed, Items};
 use std::alloc::Global;
 use std::test::Fail;

@@ -10,8 +10,8 @@ use Rattle.c_types.specs.declared.site.Site.{Site}
 use Rattle.c_types.specs.declared.site.Site.TheVariants as site
 use Rattle.c_types.specs.Sites.{item_sites}
 use Rattle.c_types.specs.Checked.{IsRead, KeepsRules}
-use Rattle.c_plain.specs.declared.tree.Variable.{Variable}
-use Rattle.c_plain.specs.Tree
+use Rattle.c_semantics.specs.declared.tree.Variable.{Variable}
+use Rattle.c_semantics.specs.Tree
 use Rattle.c_meaning.specs.Resolving.{variable_of, number_of, function_tokens, program_in}
 
 pub data Mention : Type 0 where

@@ -29,8 +29,8 @@ use Rattle.c_types.specs.declared.declaration.Entity.{Entity}
 use Rattle.c_types.specs.declared.declaration.Entity.TheVariants.{Local, Object, Function}
 use Rattle.c_types.specs.Scopes.{latest}
 use Rattle.c_types.specs.Sites.{local, class_of, declaration_of, declarations_of, parameters_of}
-use Rattle.c_plain.specs.declared.tree.Variable.{Variable}
-use Rattle.c_plain.specs.Tree
+use Rattle.c_semantics.specs.declared.tree.Variable.{Variable}
+use Rattle.c_semantics.specs.Tree
 
 -- an expression, and whether its type is unsigned
 pub record Typed : Type 0 where

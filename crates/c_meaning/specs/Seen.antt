@@ -1,8 +1,8 @@
 -- What the code keeps, as what the definitions speak of.
 use Rattle.std.specs.Prelude.{List, [], ◌∷◌}
-use Rattle.c_plain.specs.Views.{expr_of, stmt_of}
-use Rattle.c_plain.specs.declared.tree.Stmt.{Stmt}
-use Rattle.c_plain.specs.Tree
+use Rattle.c_semantics.specs.Views.{expr_of, stmt_of}
+use Rattle.c_semantics.specs.declared.tree.Stmt.{Stmt}
+use Rattle.c_semantics.specs.Tree
 use Rattle.c_meaning.specs.declared.typed.Typed.{Typed}
 use Rattle.c_meaning.specs.Resolving
 

@@ -1,6 +1,6 @@
 //! Expressions with their names resolved.
 ghost use Rattle.std.specs.Prelude.{◌≡◌, IfOk};
-ghost use Rattle.c_plain.specs.Views.{exprs_of};
+ghost use Rattle.c_semantics.specs.Views.{exprs_of};
 ghost use Rattle.c_meaning.specs.Resolving.{list_in, typed};
 ghost use Rattle.c_meaning.specs.Seen.{typed_of};
 
@@ -31,7 +31,7 @@ pub fn typed(
             ..
         } => Ok(Typed {
             unsigned: *unsigned,
-            expr: c_plain::Expr::Number { value: *value },
+            expr: c_semantics::Expr::Number { value: *value },
         }),
         Expr::Name { name, .. } => Ok(named(names.binding(name))),
         Expr::Index { name, index, token } => {
@@ -48,7 +48,7 @@ pub fn typed(
         }
         Expr::Input { .. } => Ok(Typed {
             unsigned: false,
-            expr: c_plain::Expr::Input,
+            expr: c_semantics::Expr::Input,
         }),
         Expr::Paren { inner, .. } => typed(alloc, functions, names, inner.get()),
         Expr::Unary { op, inner, .. } => {
@@ -76,7 +76,7 @@ pub fn listed(
     functions: &[u32],
     names: &Names,
     es: &[Expr],
-) -> Result<Items<c_plain::Expr>, OutOfMemory>
+) -> Result<Items<c_semantics::Expr>, OutOfMemory>
     ensures { IfOk result (λ given. exprs_of given ≡ list_in functions.now es.now names.now) }
 {
     let mut given = Items::new(alloc);

@@ -1,14 +1,14 @@
 //! What items declare, with names resolved.
 ghost use Rattle.std.specs.Prelude.{◌≡◌, [], ◌∷◌, ◌++◌, IfOk, OnOk};
 ghost use Rattle.c_types.specs.Sites.{class_of, declaration_of, declarations_of, entity_of, name_of, parameters_of, token_of};
-ghost use Rattle.c_plain.specs.Views.{function_of, functions_of, objects_of};
+ghost use Rattle.c_semantics.specs.Views.{function_of, functions_of, objects_of};
 ghost use Rattle.c_meaning.specs.Resolving.{function_in, function_tokens, functions_in, main_token, objects_in, parameters_in, word_of, words_of};
 
 use crate::statements::statements;
 use crate::typed::variable;
 use aegis_num::{Name, OutOfMemory, UnaryOp};
 use c_grammar::{Item, Kind3, Parameter, Stmt, Storage, Value};
-use c_plain::{Function, Object, Variable};
+use c_semantics::{Function, Object, Variable};
 use c_types::names::Names;
 use c_types::{Binding, Declaration, Entity};
 use regions::Class;

@@ -1,14 +1,14 @@
 //! What names stand for.
 ghost use Rattle.std.specs.Prelude.{◌≡◌, ◌+◌, ◌<◌, ◌^◌, Bool, IfOk, Some};
 ghost use Rattle.c_types.specs.declared.declaration.Entity.TheVariants as Entity;
-ghost use Rattle.c_plain.specs.Views.{expr_of, exprs_of, part_of, stmt_of};
+ghost use Rattle.c_semantics.specs.Views.{expr_of, exprs_of, part_of, stmt_of};
 ghost use Rattle.c_meaning.specs.Resolving.{assigned, call_of, called, indexed, is_unsigned, named, number_of};
 ghost use Rattle.c_meaning.specs.Seen.{typed_of};
 
 use crate::typed::{Typed, nothing, variable};
 use aegis_num::OutOfMemory;
 use c_grammar::Kind3;
-use c_plain::{Expr, Stmt};
+use c_semantics::{Expr, Stmt};
 use c_types::{Binding, Entity};
 use regions::Class;
 use sqlite_items::{Boxed, Items};

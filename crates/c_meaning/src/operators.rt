@@ -2,13 +2,13 @@
 ghost use Rattle.std.specs.Prelude.{◌≡◌, IfOk};
 ghost use Rattle.c_token.specs.declared.signs.Sign.TheVariants.{LogicalAnd, LogicalOr};
 ghost use Rattle.c_meaning.specs.Resolving.{arithmetic, binary_of, by_type, comparison, shift, unary_of};
-ghost use Rattle.c_plain.specs.Tree;
-ghost use Rattle.c_plain.specs.Views.{expr_of};
+ghost use Rattle.c_semantics.specs.Tree;
+ghost use Rattle.c_semantics.specs.Views.{expr_of};
 ghost use Rattle.c_meaning.specs.Seen.{typed_of};
 
 use crate::typed::{Typed, nothing};
 use aegis_num::{BinaryOp, OutOfMemory, UnaryOp};
-use c_plain::Expr;
+use c_semantics::Expr;
 use c_token::Sign;
 use sqlite_items::Boxed;
 use std::alloc::Global;

@@ -1,6 +1,6 @@
 //! Statements with their names resolved.
 ghost use Rattle.std.specs.Prelude.{◌≡◌, ◌++◌, IfOk, OnOk};
-ghost use Rattle.c_plain.specs.Views.{branch_of, expr_of, part_of, stmt_of, stmts_of};
+ghost use Rattle.c_semantics.specs.Views.{branch_of, expr_of, part_of, stmt_of, stmts_of};
 ghost use Rattle.c_meaning.specs.Resolving.{body_declared, body_in, branch_declared, branch_in, part_in, resolved, typed};
 
 use crate::expressions::{listed, typed};
@@ -19,7 +19,7 @@ fn part(
     functions: &[u32],
     names: &Names,
     e: &Option<Expr>,
-) -> Result<Option<c_plain::Expr>, OutOfMemory>
+) -> Result<Option<c_semantics::Expr>, OutOfMemory>
     ensures { IfOk result (λ r. part_of r ≡ part_in functions.now e.now names.now) }
 {
     match e {
@@ -39,7 +39,7 @@ pub fn statement(
     functions: &[u32],
     names: &mut Names,
     s: &Stmt,
-) -> Result<c_plain::Stmt, OutOfMemory>
+) -> Result<c_semantics::Stmt, OutOfMemory>
     ensures at { IfOk result (λ r. stmt_of r ≡ (resolved functions.now s.now).at names.old) }
     ensures declared { OnOk result (names.new ≡ names.old ++ (resolved functions.now s.now).declared) }
 {
@@ -48,9 +48,9 @@ pub fn statement(
             let start = names.len();
             let body = statements(alloc, functions, names, body.as_slice())?;
             names.forget(start)?;
-            Ok(c_plain::Stmt::Block { body })
+            Ok(c_semantics::Stmt::Block { body })
         }
-        Stmt::Empty { .. } => Ok(c_plain::Stmt::Empty),
+        Stmt::Empty { .. } => Ok(c_semantics::Stmt::Empty),
         Stmt::Local {
             unsigned,
             name,
@@ -68,7 +68,7 @@ pub fn statement(
             };
             let value = part(alloc, functions, names, value)?;
             names.declare(own)?;
-            Ok(c_plain::Stmt::Local {
+            Ok(c_semantics::Stmt::Local {
                 variable: variable(*token, None),
                 value,
             })
@@ -93,15 +93,15 @@ pub fn statement(
         }
         Stmt::Release { value, .. } => {
             let value = typed(alloc, functions, names, value)?;
-            Ok(c_plain::Stmt::Release { value: value.expr })
+            Ok(c_semantics::Stmt::Release { value: value.expr })
         }
-        Stmt::Check { .. } => Ok(c_plain::Stmt::Check),
+        Stmt::Check { .. } => Ok(c_semantics::Stmt::Check),
         Stmt::Return { value, .. } => {
             let answer = part(alloc, functions, names, value)?;
-            Ok(c_plain::Stmt::Return { value: answer })
+            Ok(c_semantics::Stmt::Return { value: answer })
         }
-        Stmt::Break { .. } => Ok(c_plain::Stmt::Break),
-        Stmt::Continue { .. } => Ok(c_plain::Stmt::Continue),
+        Stmt::Break { .. } => Ok(c_semantics::Stmt::Break),
+        Stmt::Continue { .. } => Ok(c_semantics::Stmt::Continue),
         Stmt::If {
             test,
             body,
@@ -111,7 +111,7 @@ pub fn statement(
             let test = typed(alloc, functions, names, test)?;
             let body = inside(alloc, functions, names, body.get())?;
             let other = branch_inside(alloc, functions, names, other)?;
-            Ok(c_plain::Stmt::If {
+            Ok(c_semantics::Stmt::If {
                 test: test.expr,
                 body,
                 other,
@@ -120,7 +120,7 @@ pub fn statement(
         Stmt::While { test, body, .. } => {
             let test = typed(alloc, functions, names, test)?;
             let body = inside(alloc, functions, names, body.get())?;
-            Ok(c_plain::Stmt::While {
+            Ok(c_semantics::Stmt::While {
                 test: test.expr,
                 body,
             })
@@ -138,7 +138,7 @@ pub fn statement(
             let step = branch_inside(alloc, functions, names, step)?;
             let body = inside(alloc, functions, names, body.get())?;
             names.forget(outside)?;
-            Ok(c_plain::Stmt::For {
+            Ok(c_semantics::Stmt::For {
                 first,
                 test,
                 step,
@@ -156,7 +156,7 @@ pub fn statements(
     functions: &[u32],
     names: &mut Names,
     ss: &[Stmt],
-) -> Result<Items<c_plain::Stmt>, OutOfMemory>
+) -> Result<Items<c_semantics::Stmt>, OutOfMemory>
     ensures at { IfOk result (λ r. stmts_of r ≡ body_in functions.now ss.now names.old) }
     ensures declared { OnOk result (names.new ≡ names.old ++ body_declared functions.now ss.now) }
 {
@@ -176,7 +176,7 @@ fn inside(
     functions: &[u32],
     names: &mut Names,
     s: &Stmt,
-) -> Result<Boxed<c_plain::Stmt>, OutOfMemory>
+) -> Result<Boxed<c_semantics::Stmt>, OutOfMemory>
     ensures at { IfOk result (λ r. stmt_of r ≡ (resolved functions.now s.now).at names.old) }
     ensures same { OnOk result (names.new ≡ names.old) }
 {
@@ -193,7 +193,7 @@ fn branch_inside(
     functions: &[u32],
     names: &mut Names,
     s: &Option<Boxed<Stmt>>,
-) -> Result<Option<Boxed<c_plain::Stmt>>, OutOfMemory>
+) -> Result<Option<Boxed<c_semantics::Stmt>>, OutOfMemory>
     ensures at { IfOk result (λ r. branch_of r ≡ branch_in functions.now s.now names.old) }
     ensures same { OnOk result (names.new ≡ names.old) }
 {
@@ -213,7 +213,7 @@ fn branch(
     functions: &[u32],
     names: &mut Names,
     s: &Option<Boxed<Stmt>>,
-) -> Result<Option<Boxed<c_plain::Stmt>>, OutOfMemory>
+) -> Result<Option<Boxed<c_semantics::Stmt>>, OutOfMemory>
     ensures at { IfOk result (λ r. branch_of r ≡ branch_in functions.now s.now names.old) }
     ensures declared { OnOk result (names.new ≡ names.old ++ branch_declared functions.now s.now) }
 {

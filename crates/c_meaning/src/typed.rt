@@ -3,7 +3,7 @@ ghost use Rattle.std.specs.Prelude.{◌≡◌};
 ghost use Rattle.c_meaning.specs.Resolving.{nothing, variable_of};
 ghost use Rattle.c_meaning.specs.Seen.{typed_of};
 
-use c_plain::{Expr, Variable};
+use c_semantics::{Expr, Variable};
 use regions::Class;
 
 /// An expression, and whether its type is `unsigned`, and not `int`.

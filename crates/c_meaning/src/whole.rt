@@ -1,7 +1,7 @@
 //! Whole programs with their names resolved.
 ghost use Rattle.std.specs.Prelude.{◌≡◌, ◌++◌, IfOk, OnOk, OnErr};
-ghost use Rattle.c_plain.specs.Meaning.{mean_alone};
-ghost use Rattle.c_plain.specs.Views.{program_of};
+ghost use Rattle.c_semantics.specs.Meaning.{mean_alone};
+ghost use Rattle.c_semantics.specs.Views.{program_of};
 ghost use Rattle.c_evaluator.specs.Seen.{end_of};
 ghost use Rattle.c_meaning.specs.Resolving.{program_in};
 
@@ -18,7 +18,7 @@ use std::alloc::Global;
 /// of its declaration, counted from 0, each function by its number among the functions, from 0, and each operator reads its
 /// operands as `int` or as `unsigned` by their types. `main` is the number of the function with that name. What no program
 /// that keeps the typing rules has, as a name that is not declared, becomes the number 0 or an empty statement.
-pub fn resolve(alloc: Global, p: &Program) -> Result<c_plain::Program, OutOfMemory>
+pub fn resolve(alloc: Global, p: &Program) -> Result<c_semantics::Program, OutOfMemory>
     ensures { IfOk result (λ r. program_of r ≡ program_in p.now) }
 {
     let items = p.items.as_slice();
@@ -27,7 +27,7 @@ pub fn resolve(alloc: Global, p: &Program) -> Result<c_plain::Program, OutOfMemo
     let mut names = Names::new(alloc);
     let all = functions_in(alloc, functions.as_slice(), &mut names, items)?;
     let main = number_of(functions.as_slice(), main_token(&names));
-    Ok(c_plain::Program {
+    Ok(c_semantics::Program {
         objects,
         functions: all,
         main,

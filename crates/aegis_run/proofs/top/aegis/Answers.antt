@@ -1,6 +1,6 @@
 use Rattle.std.proofs.Common.{ℕ, Option, None, Some, IfSome, sym, subst}
 use Rattle.aegis_edge.specs.Folder.{Files}
-use Rattle.c_plain.specs.Meaning.{Meaning}
+use Rattle.c_semantics.specs.Meaning.{Meaning}
 use Rattle.aegis_run.specs.declared.ends.File.TheVariants.{Source, Script}
 use Rattle.aegis_run.specs.declared.ends.TopEnd.{TopEnd}
 use Rattle.aegis_run.specs.declared.ends.TopEnd.TheVariants.{Token, Syntax, Typing, NotYet}

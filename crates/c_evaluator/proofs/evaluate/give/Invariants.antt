@@ -1,5 +1,5 @@
 use Rattle.std.proofs.Common.{◌≡◌, drop}
-use Rattle.c_plain.specs.Meaning.{given}
+use Rattle.c_semantics.specs.Meaning.{given}
 use Rattle.c_evaluator.specs.Seen.{bare, seen}
 use Rattle.c_evaluator.proofs.evaluate.give.Given as goal
 

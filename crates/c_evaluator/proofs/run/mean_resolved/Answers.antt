@@ -1,6 +1,6 @@
 use Rattle.std.proofs.Common.{◌≡◌, ◌∙◌, ap, sym, subst, [], ◌++◌, Ok}
-use Rattle.c_plain.specs.Meaning.{outcome_of}
-use Rattle.c_plain.specs.Views.{objects_of, program_of}
+use Rattle.c_semantics.specs.Meaning.{outcome_of}
+use Rattle.c_semantics.specs.Views.{objects_of, program_of}
 use Rattle.c_evaluator.specs.Calls.{callable}
 use Rattle.c_evaluator.specs.Seen.{bare, seen, started, Does, EndsSo}
 use Rattle.c_evaluator.proofs.Ends.{told}

@@ -1,5 +1,5 @@
 use Rattle.std.proofs.Common.{◌≡◌, ◌≤◌, drop, length}
-use Rattle.c_plain.specs.Views.{objects_of}
+use Rattle.c_semantics.specs.Views.{objects_of}
 use Rattle.c_evaluator.specs.Seen.{seen, started}
 use Rattle.c_evaluator.proofs.machine.Machine.new.Given as goal
 

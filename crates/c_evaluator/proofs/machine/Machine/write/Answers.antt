@@ -1,6 +1,6 @@
 use Rattle.std.proofs.Common.{◌∙◌, ap, slice_index, slice_set, []}
 use Rattle.std.proofs.lemmas.List.{get_or_default}
-use Rattle.c_plain.specs.States.{write}
+use Rattle.c_semantics.specs.States.{write}
 use Rattle.c_evaluator.specs.Seen.{memory_of, bare, seen}
 use Rattle.c_evaluator.proofs.Lookups.{memory_of-set, with-memory}
 use Rattle.c_evaluator.proofs.machine.Machine.write.Goals as goal

@@ -2,10 +2,10 @@
 use Rattle.std.specs.Prelude.{ℕ, zero, suc, ◌+◌, Bool, true, false, cond, not, ◌==◌, List, [], ◌∷◌, Option, Some, None, slice_index}
 use Rattle.execution.specs.Traffic.{Entry, Traffic, traffic_from, after_check, after_suspension}
 use Rattle.aegis_num.specs.Operators.{truth, unary}
-use Rattle.c_plain.specs.declared.tree.Variable.{Variable}
+use Rattle.c_semantics.specs.declared.tree.Variable.{Variable}
 use Rattle.regions.specs.declared.rights.Class.{Class}
-use Rattle.c_plain.specs.Tree.{Element, Expr, Number, Scalar, Indexed, Called, Input, Unary, Binary, Both, Either, Arguments, NoArguments, Argument, Stmt, Nothing, Then, Empty, Block, Local, Assign, Store, Call, Suspend, Release, Check, Return, Break, Continue, If, While, For, Function, Object, Program}
-use Rattle.c_plain.specs.States.{Setting, State, End, Ended, Turns, Outcome, GoesOn, EndsAs, then, choose, tick, noting, read, write, within, applied, taking_input, releasing, begin_turn}
+use Rattle.c_semantics.specs.Tree.{Element, Expr, Number, Scalar, Indexed, Called, Input, Unary, Binary, Both, Either, Arguments, NoArguments, Argument, Stmt, Nothing, Then, Empty, Block, Local, Assign, Store, Call, Suspend, Release, Check, Return, Break, Continue, If, While, For, Function, Object, Program}
+use Rattle.c_semantics.specs.States.{Setting, State, End, Ended, Turns, Outcome, GoesOn, EndsAs, then, choose, tick, noting, read, write, within, applied, taking_input, releasing, begin_turn}
 
 -- how a statement is left: for the next one, by `break`, by `continue`, or by `return` with a value
 pub data Flow : Type 0 where

@@ -3,12 +3,12 @@ use Rattle.std.proofs.Common.{◌≡◌, ◌≢◌, ℕ, ◌+◌, ◌≤◌, inl
 use Rattle.execution.specs.Traffic.{Entry, Traffic, Extends, next_of, word_at, without_first, input_word, after_input, loose_word, after_loose, after_release, after_write, after_check, after_suspension}
 use Rattle.execution.specs.TrafficLaws.{extends-refl, extends-trans, extends-input, extends-loose, extends-release, extends-write, extends-check, extends-suspension}
 use Rattle.regions.specs.declared.rights.Class.{Class}
-use Rattle.c_plain.specs.declared.tree.Variable.{Variable}
-use Rattle.c_plain.specs.Tree.{Element, Program}
-use Rattle.c_plain.specs.States.{Setting, State, End, Ended, Turns, Outcome, GoesOn, EndsAs, state_of, is_in, is_open, is_same_element, element_of, changed, tick, with_traffic, noting, write, releasing}
-use Rattle.c_plain.specs.Meaning.{Meaning, meaning_of, first_state, outcome_of, mean}
-use Rattle.c_plain.specs.Relating.{Alike, Holds, Relates, alike-program, keeps-program, keeps-statement}
-use Rattle.c_plain.specs.Laws.{MoreTurns, FewerTurns, FewerTurnsLessWork, TurnsAreUsed, Later, OnlyAdds, noting_none, IsSameButNotes, NotingChangesNothingElse, with_loose, ReadsNoEntry}
+use Rattle.c_semantics.specs.declared.tree.Variable.{Variable}
+use Rattle.c_semantics.specs.Tree.{Element, Program}
+use Rattle.c_semantics.specs.States.{Setting, State, End, Ended, Turns, Outcome, GoesOn, EndsAs, state_of, is_in, is_open, is_same_element, element_of, changed, tick, with_traffic, noting, write, releasing}
+use Rattle.c_semantics.specs.Meaning.{Meaning, meaning_of, first_state, outcome_of, mean}
+use Rattle.c_semantics.specs.Relating.{Alike, Holds, Relates, alike-program, keeps-program, keeps-statement}
+use Rattle.c_semantics.specs.Laws.{MoreTurns, FewerTurns, FewerTurnsLessWork, TurnsAreUsed, Later, OnlyAdds, noting_none, IsSameButNotes, NotingChangesNothingElse, with_loose, ReadsNoEntry}
 
 -- what is noted where a test holds
 extends-noted : (noted : Bool) (t u : Traffic Element) → Extends t u → Extends t (cond noted u t)

@@ -2,9 +2,9 @@
 use Rattle.std.specs.Prelude.{◌≡◌, ◌≢◌, ℕ, ◌+◌, ◌≤◌, Bool, true, false, List, []}
 use Rattle.execution.specs.Traffic.{Entry, Extends}
 use Rattle.regions.specs.declared.rights.Class.{Class}
-use Rattle.c_plain.specs.Tree.{Element, Stmt, Function, Program}
-use Rattle.c_plain.specs.States.{Setting, State, Turns, EndsAs, state_of}
-use Rattle.c_plain.specs.Meaning.{Meaning, meaning, calls_of, outcome_of, mean}
+use Rattle.c_semantics.specs.Tree.{Element, Stmt, Function, Program}
+use Rattle.c_semantics.specs.States.{Setting, State, Turns, EndsAs, state_of}
+use Rattle.c_semantics.specs.Meaning.{Meaning, meaning, calls_of, outcome_of, mean}
 
 -- more turns change nothing once the run ended
 abbrev pub MoreTurns : Type 0

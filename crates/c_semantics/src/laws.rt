@@ -1,5 +1,5 @@
 //! Laws of the meaning.
-ghost use Rattle.c_plain.specs.Laws.{
+ghost use Rattle.c_semantics.specs.Laws.{
   FewerTurns,
   FewerTurnsLessWork,
   MoreTurns,

@@ -1,16 +1,16 @@
 -- The programs that the code keeps, as those of the definitions.
 use Rattle.std.specs.Prelude.{ℕ, List, [], ◌∷◌, Option, Some, None}
-use Rattle.c_plain.specs.declared.tree.Expr.{Expr}
-use Rattle.c_plain.specs.declared.tree.Expr.TheOpen.{Expr-F}
-use Rattle.c_plain.specs.declared.tree.Expr.TheFolds.{fold-Expr}
-use Rattle.c_plain.specs.declared.tree.Stmt.{Stmt}
-use Rattle.c_plain.specs.declared.tree.Stmt.TheOpen.{Stmt-F}
-use Rattle.c_plain.specs.declared.tree.Stmt.TheFolds.{fold-Stmt}
-use Rattle.c_plain.specs.declared.tree.Variable.{Variable}
-use Rattle.c_plain.specs.declared.tree.Function.{Function}
-use Rattle.c_plain.specs.declared.tree.Object.{Object}
-use Rattle.c_plain.specs.declared.tree.Program.{Program}
-use Rattle.c_plain.specs.Tree
+use Rattle.c_semantics.specs.declared.tree.Expr.{Expr}
+use Rattle.c_semantics.specs.declared.tree.Expr.TheOpen.{Expr-F}
+use Rattle.c_semantics.specs.declared.tree.Expr.TheFolds.{fold-Expr}
+use Rattle.c_semantics.specs.declared.tree.Stmt.{Stmt}
+use Rattle.c_semantics.specs.declared.tree.Stmt.TheOpen.{Stmt-F}
+use Rattle.c_semantics.specs.declared.tree.Stmt.TheFolds.{fold-Stmt}
+use Rattle.c_semantics.specs.declared.tree.Variable.{Variable}
+use Rattle.c_semantics.specs.declared.tree.Function.{Function}
+use Rattle.c_semantics.specs.declared.tree.Object.{Object}
+use Rattle.c_semantics.specs.declared.tree.Program.{Program}
+use Rattle.c_semantics.specs.Tree
 
 -- expressions as arguments
 abbrev pub arguments_of : List Tree.Expr → Tree.Arguments

@@ -3,10 +3,10 @@ use Rattle.std.proofs.Common.{◌≡◌, ℕ, true, false, [], ◌∷◌, Some, 
 use Rattle.regions.specs.declared.rights.Class.TheVariants.{Open, Verified}
 use Rattle.aegis_num.specs.declared.operators.BinaryOp.TheVariants.{Add, Sub, DivS, DivU, ShrS, LtS, LtU}
 use Rattle.aegis_num.specs.declared.operators.UnaryOp.TheVariants.{Neg}
-use Rattle.c_plain.specs.declared.tree.Variable.{Variable}
-use Rattle.c_plain.specs.Tree.{Number, Scalar, Indexed, Called, Input, Unary, Binary, Both, Either, NoArguments, Argument, Stmt, Nothing, Then, Block, Local, Assign, Store, Suspend, Release, Return, Break, Continue, If, While, For, Program}
-use Rattle.c_plain.specs.States.{Setting, Ended, Index, Divide, Starved, Turns, is_open}
-use Rattle.c_plain.specs.Meaning.{mean}
+use Rattle.c_semantics.specs.declared.tree.Variable.{Variable}
+use Rattle.c_semantics.specs.Tree.{Number, Scalar, Indexed, Called, Input, Unary, Binary, Both, Either, NoArguments, Argument, Stmt, Nothing, Then, Block, Local, Assign, Store, Suspend, Release, Return, Break, Continue, If, While, For, Program}
+use Rattle.c_semantics.specs.States.{Setting, Ended, Index, Divide, Starved, Turns, is_open}
+use Rattle.c_semantics.specs.Meaning.{mean}
 
 -- nothing is loose, and all is noted
 abbrev plain : Setting

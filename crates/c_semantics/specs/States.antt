@@ -5,8 +5,8 @@ use Rattle.regions.specs.declared.rights.Class.{Class}
 use Rattle.regions.specs.declared.rights.Class.TheVariants.{Open}
 use Rattle.aegis_num.specs.declared.operators.BinaryOp.{BinaryOp}
 use Rattle.aegis_num.specs.Operators.{binary, traps}
-use Rattle.c_plain.specs.declared.tree.Variable.{Variable}
-use Rattle.c_plain.specs.Tree.{Element}
+use Rattle.c_semantics.specs.declared.tree.Variable.{Variable}
+use Rattle.c_semantics.specs.Tree.{Element}
 
 -- which classes are loose, and whether work, checks, suspensions and shared writes are noted
 pub record Setting : Type 0 where

@@ -2,17 +2,17 @@
 use Rattle.std.proofs.Common.{◌≡◌, ◌∙◌, ap, sym, ℕ, List, [], ◌∷◌, map, Option, Some, None, refl}
 use Rattle.aegis_num.specs.declared.operators.BinaryOp.{BinaryOp}
 use Rattle.aegis_num.specs.declared.operators.UnaryOp.{UnaryOp}
-use Rattle.c_plain.specs.declared.tree.Expr.{Expr}
-use Rattle.c_plain.specs.declared.tree.Expr.TheVariants as expr
-use Rattle.c_plain.specs.declared.tree.Expr.TheOpen.{Expr-F}
-use Rattle.c_plain.specs.declared.tree.Expr.TheFolds.{fold-roll-Expr}
-use Rattle.c_plain.specs.declared.tree.Stmt.{Stmt}
-use Rattle.c_plain.specs.declared.tree.Stmt.TheVariants as stmt
-use Rattle.c_plain.specs.declared.tree.Stmt.TheOpen.{Stmt-F}
-use Rattle.c_plain.specs.declared.tree.Stmt.TheFolds.{fold-roll-Stmt}
-use Rattle.c_plain.specs.declared.tree.Variable.{Variable}
-use Rattle.c_plain.specs.Tree
-use Rattle.c_plain.specs.Views.{arguments_of, expr_step, expr_of, exprs_of, part_of, in_turn, optional, stmt_step, stmt_of, stmts_of, branch_of}
+use Rattle.c_semantics.specs.declared.tree.Expr.{Expr}
+use Rattle.c_semantics.specs.declared.tree.Expr.TheVariants as expr
+use Rattle.c_semantics.specs.declared.tree.Expr.TheOpen.{Expr-F}
+use Rattle.c_semantics.specs.declared.tree.Expr.TheFolds.{fold-roll-Expr}
+use Rattle.c_semantics.specs.declared.tree.Stmt.{Stmt}
+use Rattle.c_semantics.specs.declared.tree.Stmt.TheVariants as stmt
+use Rattle.c_semantics.specs.declared.tree.Stmt.TheOpen.{Stmt-F}
+use Rattle.c_semantics.specs.declared.tree.Stmt.TheFolds.{fold-roll-Stmt}
+use Rattle.c_semantics.specs.declared.tree.Variable.{Variable}
+use Rattle.c_semantics.specs.Tree
+use Rattle.c_semantics.specs.Views.{arguments_of, expr_step, expr_of, exprs_of, part_of, in_turn, optional, stmt_step, stmt_of, stmts_of, branch_of}
 
 -- ---- lists
 

@@ -4,10 +4,10 @@ use Rattle.execution.specs.Traffic.{input_word, after_input, loose_word, after_l
 use Rattle.regions.specs.declared.rights.Class.{Class}
 use Rattle.aegis_num.specs.declared.operators.BinaryOp.{BinaryOp}
 use Rattle.aegis_num.specs.Operators.{truth, unary, binary, traps}
-use Rattle.c_plain.specs.declared.tree.Variable.{Variable}
-use Rattle.c_plain.specs.Tree.{Expr, Number, Scalar, Indexed, Called, Input, Unary, Binary, Both, Either, Arguments, NoArguments, Argument, Stmt, Nothing, Then, Empty, Block, Local, Assign, Store, Call, Suspend, Release, Check, Return, Break, Continue, If, While, For, Function}
-use Rattle.c_plain.specs.States.{Setting, State, End, Index, Divide, Starved, Turns, Outcome, GoesOn, EndsAs, then, choose, is_same_element, is_in, element_of, kept, loosely, tick, with_traffic, noting, read, write, within, applied, taking_input, releasing, begin_turn}
-use Rattle.c_plain.specs.Meaning.{Flow, Next, Broke, Continued, Returned, Turn, Again, Leaves, Calls, value, values, value_or_zero, condition, behind, behind_body, turn, behind_turn, iterate, loop, next, meaning, result_of, given, called, with_function, no_calls, calls_from, calls_of}
+use Rattle.c_semantics.specs.declared.tree.Variable.{Variable}
+use Rattle.c_semantics.specs.Tree.{Expr, Number, Scalar, Indexed, Called, Input, Unary, Binary, Both, Either, Arguments, NoArguments, Argument, Stmt, Nothing, Then, Empty, Block, Local, Assign, Store, Call, Suspend, Release, Check, Return, Break, Continue, If, While, For, Function}
+use Rattle.c_semantics.specs.States.{Setting, State, End, Index, Divide, Starved, Turns, Outcome, GoesOn, EndsAs, then, choose, is_same_element, is_in, element_of, kept, loosely, tick, with_traffic, noting, read, write, within, applied, taking_input, releasing, begin_turn}
+use Rattle.c_semantics.specs.Meaning.{Flow, Next, Broke, Continued, Returned, Turn, Again, Leaves, Calls, value, values, value_or_zero, condition, behind, behind_body, turn, behind_turn, iterate, loop, next, meaning, result_of, given, called, with_function, no_calls, calls_from, calls_of}
 
 -- how two outcomes are alike: the same value or end and states in relation, or the first has used its turns and the second has gone on from there
 abbrev pub Alike : {A : Type 0} → (State → State → Type 0) → (State → State → Type 0) → Outcome A → Outcome A → Type 0

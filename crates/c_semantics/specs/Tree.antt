@@ -3,7 +3,7 @@
 use Rattle.std.specs.Prelude.{ℕ, List, Option}
 use Rattle.aegis_num.specs.declared.operators.BinaryOp.{BinaryOp}
 use Rattle.aegis_num.specs.declared.operators.UnaryOp.{UnaryOp}
-use Rattle.c_plain.specs.declared.tree.Variable.{Variable}
+use Rattle.c_semantics.specs.declared.tree.Variable.{Variable}
 
 -- an element of a variable or an array; a variable that is no array has the one element 0
 pub record Element : Type 0 where

@@ -1,5 +1,0 @@
-use Rattle.c_plain.specs.LawProofs.{reads_no_entry}
-use Rattle.c_plain.proofs.laws.no_loose_class_reads_no_entry.Goals as goal
-
-pub returns : goal.returns
-returns c = record { unread = reads_no_entry }

@@ -1,5 +1,0 @@
-use Rattle.c_plain.specs.LawProofs.{noting_changes_nothing_else}
-use Rattle.c_plain.proofs.laws.noting_changes_nothing_else.Goals as goal
-
-pub returns : goal.returns
-returns c = record { same = noting_changes_nothing_else }

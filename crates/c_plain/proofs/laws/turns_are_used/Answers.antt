@@ -1,5 +1,0 @@
-use Rattle.c_plain.specs.LawProofs.{turns_are_used}
-use Rattle.c_plain.proofs.laws.turns_are_used.Goals as goal
-
-pub returns : goal.returns
-returns c = record { used = turns_are_used }

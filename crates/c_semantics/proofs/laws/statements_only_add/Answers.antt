@@ -1,0 +1,5 @@
+use Rattle.c_semantics.specs.LawProofs.{only_adds}
+use Rattle.c_semantics.proofs.laws.statements_only_add.Goals as goal
+
+pub returns : goal.returns
+returns c = record { adds = only_adds }
