@@ -9,13 +9,13 @@ use Rattle.c_grammar.specs.declared.item.Item.{Item}
 use Rattle.c_grammar.specs.declared.item.Program.{Program}
 use Rattle.c_token.specs.declared.signs.Sign.TheVariants.{LeftParenthesis, RightParenthesis, LeftBrace, RightBrace, Semicolon}
 use Rattle.c_token.specs.declared.words.Word.TheVariants.{Release}
-use Rattle.c_grammar.specs.Tokens.{Bounded, name, word, sign, numbered, bounded, bounded_all}
-use Rattle.c_grammar.specs.Expressions.{Expression, Binary, Unary, Primary}
-use Rattle.c_grammar.specs.Expressions as e
-use Rattle.c_grammar.specs.Statements.{Local, Simple, Statement, Body}
-use Rattle.c_grammar.specs.Statements as s
-use Rattle.c_grammar.specs.Programs.{IsItem, AreItems}
-use Rattle.c_grammar.specs.Programs as p
+use Rattle.c_grammar.specs.BoundedTokens.{Bounded, name, word, sign, numbered, bounded, bounded_all}
+use Rattle.c_grammar.specs.ExpressionGrammar.{Expression, Binary, Unary, Primary}
+use Rattle.c_grammar.specs.ExpressionGrammar as e
+use Rattle.c_grammar.specs.StatementGrammar.{Local, Simple, Statement, Body}
+use Rattle.c_grammar.specs.StatementGrammar as s
+use Rattle.c_grammar.specs.ProgramGrammar.{IsItem, AreItems}
+use Rattle.c_grammar.specs.ProgramGrammar as p
 use Rattle.c_grammar.specs.Places.{limit, Reads}
 use Rattle.aegis_run.specs.Literals.{released_by, returns_literal, in_front, body_literals, item_literals, items_literals, literals_of}
 

@@ -8,12 +8,12 @@ use Rattle.c_grammar.specs.declared.expr.Expr.TheVariants as expr
 use Rattle.c_grammar.specs.declared.stmt.Stmt.TheVariants as stmt
 use Rattle.c_grammar.specs.declared.item.Item.TheVariants as item
 use Rattle.c_grammar.specs.declared.item.Kind3.TheVariants as kind3
-use Rattle.c_grammar.specs.Tokens.{Spot, numbered, bounded_all}
-use Rattle.c_grammar.specs.Expressions as e
-use Rattle.c_grammar.specs.Expressions.{Expression, Binary, Unary}
-use Rattle.c_grammar.specs.Statements as s
-use Rattle.c_grammar.specs.Statements.{Statement, Body}
-use Rattle.c_grammar.specs.Programs as p
+use Rattle.c_grammar.specs.BoundedTokens.{Spot, numbered, bounded_all}
+use Rattle.c_grammar.specs.ExpressionGrammar as e
+use Rattle.c_grammar.specs.ExpressionGrammar.{Expression, Binary, Unary}
+use Rattle.c_grammar.specs.StatementGrammar as s
+use Rattle.c_grammar.specs.StatementGrammar.{Statement, Body}
+use Rattle.c_grammar.specs.ProgramGrammar as p
 use Rattle.c_grammar.specs.Places.{Reads}
 
 -- the token with this number, within the limits

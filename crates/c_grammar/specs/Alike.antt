@@ -4,7 +4,7 @@ use Rattle.std.specs.Prelude.{◌≡◌, ◌≤◌, ℕ, Bool, List, [], ◌∷�
 use Rattle.arrayvec.specs.ArrayString.{ArrayString}
 use Rattle.c_token.specs.declared.words.Word.{Word}
 use Rattle.c_token.specs.declared.signs.Sign.{Sign}
-use Rattle.c_grammar.specs.Tokens.{Spot, Bounded, name, number, word, sign}
+use Rattle.c_grammar.specs.BoundedTokens.{Spot, Bounded, name, number, word, sign}
 
 pub data Alike : Bounded → Bounded → Type 0 where
   names : (s t : Spot) (a b : ArrayString) → s.bound ≤ t.bound → a.bytes ≡ b.bytes → Alike (name s a) (name t b)

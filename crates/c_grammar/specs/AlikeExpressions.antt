@@ -6,9 +6,9 @@ use Rattle.c_token.specs.declared.signs.Sign.TheVariants.{LeftParenthesis, Right
 use Rattle.c_token.specs.declared.words.Word.TheVariants.{Input}
 use Rattle.c_grammar.specs.declared.expr.Expr.{Expr}
 use Rattle.c_grammar.specs.declared.expr.Expr.TheVariants as e
-use Rattle.c_grammar.specs.Tokens.{Spot, Bounded, name, number, word, sign}
-use Rattle.c_grammar.specs.Signs.{rank, is_unary_operator}
-use Rattle.c_grammar.specs.Expressions.{Expression, Binary, Unary, Primary, Arguments, Listed, whole, alone, tighter, both, primary, operation, literal, variable, element, call, input, parenthesised, nothing, some, one, further}
+use Rattle.c_grammar.specs.BoundedTokens.{Spot, Bounded, name, number, word, sign}
+use Rattle.c_grammar.specs.Precedence.{rank, is_unary_operator}
+use Rattle.c_grammar.specs.ExpressionGrammar.{Expression, Binary, Unary, Primary, Arguments, Listed, whole, alone, tighter, both, primary, operation, literal, variable, element, call, input, parenthesised, nothing, some, one, further}
 use Rattle.c_grammar.specs.Same as same
 use Rattle.c_grammar.specs.Same.{SameExpr, SameExprs}
 use Rattle.c_grammar.specs.Alike.{names, numbers, words, signs, AllAlike, none_left, one_more, Splits, parts, split}

@@ -5,7 +5,7 @@ use Rattle.c_token.specs.declared.kinds.Kind.{Kind}
 use Rattle.c_token.specs.declared.kinds.Kind.TheVariants as kinds
 use Rattle.c_token.specs.Lexemes.{Lexeme, lexeme_of}
 use Rattle.c_grammar.specs.declared.item.Program.{Program}
-use Rattle.c_grammar.specs.Tokens.{Spot, Bounded, kinds_of, numbered, bounded_all}
+use Rattle.c_grammar.specs.BoundedTokens.{Spot, Bounded, kinds_of, numbered, bounded_all}
 use Rattle.c_grammar.specs.Places.{limit, Reads, AreLimited}
 use Rattle.c_grammar.specs.Same.{Same}
 use Rattle.c_grammar.specs.Alike.{Alike, names, numbers, words, signs, AllAlike, none_left, one_more}

@@ -3,7 +3,7 @@ use Rattle.std.proofs.Common.{◌≡◌, ◌<◌, inl, inr, ⊎_elim, ℕ, zero,
 use Rattle.std.proofs.lemmas.List.{map-append, length-map, take-map}
 use Rattle.c_token.specs.declared.kinds.Kind.{Kind}
 use Rattle.c_token.specs.Lexemes.{lexeme_of}
-use Rattle.c_grammar.specs.Tokens.{Bounded, kinds_of}
+use Rattle.c_grammar.specs.BoundedTokens.{Bounded, kinds_of}
 use Rattle.c_grammar.specs.Places.{AreLimited, IsText, BeginsWithin, IsExpectedAt, IsDeepAt, IsShallowBefore}
 use Rattle.c_grammar.specs.Alike.{AllAlike, none_left, one_more}
 use Rattle.c_grammar.specs.AlikePrograms.{same_program}

@@ -11,8 +11,8 @@ use Rattle.c_grammar.specs.declared.item.Parameter.{Parameter}
 use Rattle.c_grammar.specs.declared.item.Item.{Item}
 use Rattle.c_grammar.specs.declared.item.Item.TheVariants as i
 use Rattle.c_grammar.specs.declared.item.Program.{Program}
-use Rattle.c_grammar.specs.Tokens.{Bounded, name, number, word, sign}
-use Rattle.c_grammar.specs.Programs.{IsStorage, IsLength, IsValue, AreValues, AreInitial, IsResult, IsParameter, AreListed, AreParameters, IsPrivate, IsItem, AreItems, IsProgram}
+use Rattle.c_grammar.specs.BoundedTokens.{Bounded, name, number, word, sign}
+use Rattle.c_grammar.specs.ProgramGrammar.{IsStorage, IsLength, IsValue, AreValues, AreInitial, IsResult, IsParameter, AreListed, AreParameters, IsPrivate, IsItem, AreItems, IsProgram}
 use Rattle.c_grammar.specs.Same.{SameParameters, SameItem, SameItems, Same}
 use Rattle.c_grammar.specs.Alike.{AllAlike, at_sign, at_word, at_name, at_number, at_end, at_parts}
 use Rattle.c_grammar.specs.AlikeStatements.{same_type, same_body}

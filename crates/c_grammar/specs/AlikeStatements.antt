@@ -5,8 +5,8 @@ use Rattle.c_token.specs.declared.words.Word.TheVariants as w
 use Rattle.c_grammar.specs.declared.expr.Expr.{Expr}
 use Rattle.c_grammar.specs.declared.stmt.Stmt.{Stmt}
 use Rattle.c_grammar.specs.declared.stmt.Stmt.TheVariants as s
-use Rattle.c_grammar.specs.Tokens.{Spot, Bounded, name, word, sign}
-use Rattle.c_grammar.specs.Statements.{IsType, Local, Simple, First, Step, Maybe, Statement, Body}
+use Rattle.c_grammar.specs.BoundedTokens.{Spot, Bounded, name, word, sign}
+use Rattle.c_grammar.specs.StatementGrammar.{IsType, Local, Simple, First, Step, Maybe, Statement, Body}
 use Rattle.c_grammar.specs.Same.{SameExpr, SameOption, SameStmt, SamePart, SameStmts}
 use Rattle.c_grammar.specs.Alike.{AllAlike, at_sign, at_word, at_name, at_end, at_parts}
 use Rattle.c_grammar.specs.AlikeExpressions.{same_expression, same_arguments}

@@ -1,8 +1,8 @@
-pub mod Tokens
-pub mod Signs
-pub mod Expressions
-pub mod Statements
-pub mod Programs
+pub mod BoundedTokens
+pub mod Precedence
+pub mod ExpressionGrammar
+pub mod StatementGrammar
+pub mod ProgramGrammar
 pub mod Places
 pub mod Same
 pub mod Printed

@@ -5,7 +5,7 @@ use Rattle.std.proofs.lemmas.List.{take-append-drop}
 use Rattle.std.proofs.Math.Seq.{take-length}
 use Rattle.c_token.specs.declared.kinds.Kind.{Kind}
 use Rattle.c_grammar.specs.declared.item.Program.{Program}
-use Rattle.c_grammar.specs.Tokens.{Bounded, kinds_of, numbered, bounded_all}
+use Rattle.c_grammar.specs.BoundedTokens.{Bounded, kinds_of, numbered, bounded_all}
 use Rattle.c_grammar.specs.Places.{limit, Reads, AreLimited, IsText, Begins, BeginsWithin, IsExpectedAt, IsDeepAt, IsShallowBefore}
 use Rattle.c_grammar.specs.AlikeKinds.{numbered_limited, kinds-numbered}
 

@@ -2,8 +2,8 @@
 use Rattle.std.specs.Prelude.{◌≡◌, ◌<◌, ◌≤◌, ◌⊎◌, ℕ, suc, List, [], ◌∷◌, ◌++◌, length, take}
 use Rattle.c_token.specs.declared.kinds.Kind.{Kind}
 use Rattle.c_grammar.specs.declared.item.Program.{Program}
-use Rattle.c_grammar.specs.Tokens.{numbered, Bounded, kinds_of, bounded_all}
-use Rattle.c_grammar.specs.Programs.{IsProgram}
+use Rattle.c_grammar.specs.BoundedTokens.{numbered, Bounded, kinds_of, bounded_all}
+use Rattle.c_grammar.specs.ProgramGrammar.{IsProgram}
 
 -- how many levels may be open at one token, and how many operators of two operands one expression may have
 abbrev pub limit : ℕ

@@ -6,15 +6,15 @@ use Rattle.c_grammar.specs.declared.expr.Expr.{Expr}
 use Rattle.c_grammar.specs.declared.expr.Expr.TheVariants as expr
 use Rattle.c_grammar.specs.declared.expr.Expr.TheOpen.{Expr-F}
 use Rattle.c_grammar.specs.declared.expr.Expr.TheFolds.{fold-roll-Expr}
-use Rattle.c_grammar.specs.Signs.{rank, is_unary_operator}
-use Rattle.c_grammar.specs.Tokens.{Bounded}
-use Rattle.c_grammar.specs.Expressions.{Expression, Binary, Unary, Primary, Arguments, Listed}
-use Rattle.c_grammar.specs.Expressions.Expression.{whole}
-use Rattle.c_grammar.specs.Expressions.Binary.{alone, tighter, both}
-use Rattle.c_grammar.specs.Expressions.Unary.{primary, operation}
-use Rattle.c_grammar.specs.Expressions.Primary.{literal, variable, element, call, input, parenthesised}
-use Rattle.c_grammar.specs.Expressions.Arguments.{nothing, some}
-use Rattle.c_grammar.specs.Expressions.Listed.{one, further}
+use Rattle.c_grammar.specs.Precedence.{rank, is_unary_operator}
+use Rattle.c_grammar.specs.BoundedTokens.{Bounded}
+use Rattle.c_grammar.specs.ExpressionGrammar.{Expression, Binary, Unary, Primary, Arguments, Listed}
+use Rattle.c_grammar.specs.ExpressionGrammar.Expression.{whole}
+use Rattle.c_grammar.specs.ExpressionGrammar.Binary.{alone, tighter, both}
+use Rattle.c_grammar.specs.ExpressionGrammar.Unary.{primary, operation}
+use Rattle.c_grammar.specs.ExpressionGrammar.Primary.{literal, variable, element, call, input, parenthesised}
+use Rattle.c_grammar.specs.ExpressionGrammar.Arguments.{nothing, some}
+use Rattle.c_grammar.specs.ExpressionGrammar.Listed.{one, further}
 use Rattle.c_types.specs.declared.declaration.Declaration.{Declaration}
 use Rattle.c_types.specs.declared.site.Home.{Home}
 use Rattle.c_types.specs.declared.site.Rule.{Rule}

@@ -5,8 +5,8 @@ use Rattle.c_grammar.specs.declared.item.Parameter.{Parameter}
 use Rattle.c_grammar.specs.declared.item.Item.{Item}
 use Rattle.c_grammar.specs.declared.item.Item.TheVariants as item
 use Rattle.c_grammar.specs.declared.item.Program.{Program}
-use Rattle.c_grammar.specs.Tokens.{Bounded}
-use Rattle.c_grammar.specs.Programs.{IsItem, AreItems}
+use Rattle.c_grammar.specs.BoundedTokens.{Bounded}
+use Rattle.c_grammar.specs.ProgramGrammar.{IsItem, AreItems}
 use Rattle.c_types.specs.declared.declaration.Declaration.{Declaration}
 use Rattle.c_types.specs.declared.site.Home.{Home}
 use Rattle.c_types.specs.declared.site.Rule.{Rule}

@@ -6,8 +6,8 @@ use Rattle.c_grammar.specs.declared.stmt.Stmt.{Stmt}
 use Rattle.c_grammar.specs.declared.stmt.Stmt.TheVariants as stmt
 use Rattle.c_grammar.specs.declared.stmt.Stmt.TheOpen.{Stmt-F}
 use Rattle.c_grammar.specs.declared.stmt.Stmt.TheFolds.{fold-roll-Stmt}
-use Rattle.c_grammar.specs.Tokens.{Bounded}
-use Rattle.c_grammar.specs.Statements.{Local, Simple, First, Step, Maybe, Statement, Body}
+use Rattle.c_grammar.specs.BoundedTokens.{Bounded}
+use Rattle.c_grammar.specs.StatementGrammar.{Local, Simple, First, Step, Maybe, Statement, Body}
 use Rattle.c_types.specs.declared.declaration.Declaration.{Declaration}
 use Rattle.c_types.specs.declared.site.Home.{Home}
 use Rattle.c_types.specs.declared.site.Site.{Site}

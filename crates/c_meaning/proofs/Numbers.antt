@@ -9,8 +9,8 @@ use Rattle.c_grammar.specs.declared.item.Kind3.{Kind3}
 use Rattle.c_grammar.specs.declared.item.Parameter.{Parameter}
 use Rattle.c_grammar.specs.declared.item.Item.{Item}
 use Rattle.c_grammar.specs.declared.item.Item.TheVariants as item
-use Rattle.c_grammar.specs.Tokens.{Bounded, bounded_all, numbered}
-use Rattle.c_grammar.specs.Programs.{IsItem, AreItems}
+use Rattle.c_grammar.specs.BoundedTokens.{Bounded, bounded_all, numbered}
+use Rattle.c_grammar.specs.ProgramGrammar.{IsItem, AreItems}
 use Rattle.c_grammar.specs.Places.{limit}
 use Rattle.c_types.specs.declared.declaration.Declaration.{Declaration}
 use Rattle.c_types.specs.Sites.{declaration_of, declarations_of, token_of}

@@ -7,10 +7,10 @@ use Rattle.c_token.specs.declared.kinds.Kind.TheVariants as kinds
 use Rattle.c_grammar.specs.declared.expr.Expr.{Expr}
 use Rattle.c_grammar.specs.declared.stmt.Stmt.{Stmt}
 use Rattle.c_grammar.specs.declared.stmt.Stmt.TheVariants as stmt
-use Rattle.c_grammar.specs.Tokens as g
-use Rattle.c_grammar.specs.Tokens.{Tok, Spot, Bounded, tok_of, bounded, bounded_all}
-use Rattle.c_grammar.specs.Statements as gr
-use Rattle.c_grammar.specs.Statements.{IsType, Local, Simple, Maybe, First, Step, Statement, Body}
+use Rattle.c_grammar.specs.BoundedTokens as g
+use Rattle.c_grammar.specs.BoundedTokens.{Tok, Spot, Bounded, tok_of, bounded, bounded_all}
+use Rattle.c_grammar.specs.StatementGrammar as gr
+use Rattle.c_grammar.specs.StatementGrammar.{IsType, Local, Simple, Maybe, First, Step, Statement, Body}
 use Rattle.c_parser.specs.declared.statement.Start.{Start}
 use Rattle.c_parser.specs.declared.statement.Start.TheVariants as start
 use Rattle.c_parser.specs.declared.statement.LoopHead.{LoopHead}

@@ -7,10 +7,10 @@ use Rattle.c_token.specs.declared.kinds.Kind.{Kind}
 use Rattle.c_token.specs.declared.kinds.Kind.TheVariants as kinds
 use Rattle.c_grammar.specs.declared.expr.Expr.{Expr}
 use Rattle.c_grammar.specs.declared.expr.Expr.TheVariants as expr
-use Rattle.c_grammar.specs.Tokens as g
-use Rattle.c_grammar.specs.Tokens.{Tok, Spot, Bounded, tok_of, bounded, bounded_all}
-use Rattle.c_grammar.specs.Signs.{rank}
-use Rattle.c_grammar.specs.Expressions.{Expression, whole, Binary, alone, tighter, both, Unary, primary, literal}
+use Rattle.c_grammar.specs.BoundedTokens as g
+use Rattle.c_grammar.specs.BoundedTokens.{Tok, Spot, Bounded, tok_of, bounded, bounded_all}
+use Rattle.c_grammar.specs.Precedence.{rank}
+use Rattle.c_grammar.specs.ExpressionGrammar.{Expression, whole, Binary, alone, tighter, both, Unary, primary, literal}
 use Rattle.c_parser.specs.declared.expression.Grown.{Grown}
 use Rattle.c_parser.specs.Parser.{deep, Outcome, done, stop, Parser, follow, ◌>>=◌, gives, first_kind, sign}
 use Rattle.c_parser.specs.Expressions.{rank_of, operator_of, operator_at, joined, chain_with, chain, chained, binary}

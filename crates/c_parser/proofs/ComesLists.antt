@@ -1,8 +1,8 @@
 -- Lists of the grammar are read, or nest too deep.
 use Rattle.std.proofs.Common.{◌≡◌, ℕ, Bool, true, false, List, [], ◌∷◌, ◌++◌, refl, sym, ap, ◌∙◌, subst}
 use Rattle.c_token.specs.declared.signs.Sign.TheVariants as signs
-use Rattle.c_grammar.specs.Tokens as g
-use Rattle.c_grammar.specs.Tokens.{Tok, Spot, Bounded, tok_of, toks_of}
+use Rattle.c_grammar.specs.BoundedTokens as g
+use Rattle.c_grammar.specs.BoundedTokens.{Tok, Spot, Bounded, tok_of, toks_of}
 use Rattle.c_parser.specs.Parser.{done, Parser, follow, is_at_sign, sign, all, behind_comma, separated}
 use Rattle.c_parser.proofs.Holds.{Alike, Always, Full, Takes, Seq, seq, Mapped, mapped, Many, none_left, one_more, is_sign}
 use Rattle.c_parser.proofs.Lists.{Comma, all_turn, turn, behind_one, head_sign, comma_takes, after_comma}

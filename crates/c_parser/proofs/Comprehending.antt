@@ -9,11 +9,11 @@ use Rattle.c_token.specs.declared.kinds.Kind.TheVariants as kinds
 use Rattle.c_grammar.specs.declared.expr.Expr.{Expr}
 use Rattle.c_grammar.specs.declared.expr.Expr.TheVariants as expr
 use Rattle.arrayvec.specs.ArrayString.{ArrayString}
-use Rattle.c_grammar.specs.Tokens as g
-use Rattle.c_grammar.specs.Tokens.{Tok, Spot, Bounded, tok_of, toks_of}
-use Rattle.c_grammar.specs.Signs.{rank, is_unary_operator}
-use Rattle.c_grammar.specs.Expressions as gr
-use Rattle.c_grammar.specs.Expressions.{Expression, whole, Binary, alone, tighter, both, Unary, primary, operation, Primary, literal, variable, element, parenthesised, Arguments, Listed, further}
+use Rattle.c_grammar.specs.BoundedTokens as g
+use Rattle.c_grammar.specs.BoundedTokens.{Tok, Spot, Bounded, tok_of, toks_of}
+use Rattle.c_grammar.specs.Precedence.{rank, is_unary_operator}
+use Rattle.c_grammar.specs.ExpressionGrammar as gr
+use Rattle.c_grammar.specs.ExpressionGrammar.{Expression, whole, Binary, alone, tighter, both, Unary, primary, operation, Primary, literal, variable, element, parenthesised, Arguments, Listed, further}
 use Rattle.c_parser.specs.declared.expression.Grown.{Grown}
 use Rattle.c_parser.specs.Parser.{deep, Outcome, done, stop, Parser, follow, ◌>>=◌, gives, first_kind, is_some_sign, is_at_sign, sign, word, name}
 use Rattle.c_parser.specs.Expressions as p

@@ -8,11 +8,11 @@ use Rattle.c_token.specs.declared.kinds.Kind.{Kind}
 use Rattle.c_token.specs.declared.kinds.Kind.TheVariants as kinds
 use Rattle.c_grammar.specs.declared.expr.Expr.{Expr}
 use Rattle.c_grammar.specs.declared.expr.Expr.TheVariants as expr
-use Rattle.c_grammar.specs.Tokens as g
-use Rattle.c_grammar.specs.Tokens.{Tok, Spot, Bounded, tok_of, bounded, bounded_all}
-use Rattle.c_grammar.specs.Signs.{is_unary_operator}
-use Rattle.c_grammar.specs.Expressions as gr
-use Rattle.c_grammar.specs.Expressions.{Expression, whole, Binary, Unary, primary, operation, Primary, literal, Arguments, Listed}
+use Rattle.c_grammar.specs.BoundedTokens as g
+use Rattle.c_grammar.specs.BoundedTokens.{Tok, Spot, Bounded, tok_of, bounded, bounded_all}
+use Rattle.c_grammar.specs.Precedence.{is_unary_operator}
+use Rattle.c_grammar.specs.ExpressionGrammar as gr
+use Rattle.c_grammar.specs.ExpressionGrammar.{Expression, whole, Binary, Unary, primary, operation, Primary, literal, Arguments, Listed}
 use Rattle.c_parser.specs.declared.cursor.Named.{Named}
 use Rattle.c_parser.specs.declared.expression.Bracketed.{Bracketed}
 use Rattle.c_parser.specs.declared.expression.Operand.{Operand}

@@ -7,11 +7,11 @@ use Rattle.c_token.specs.declared.words.Word.TheVariants as words
 use Rattle.c_grammar.specs.declared.expr.Expr.{Expr}
 use Rattle.c_grammar.specs.declared.stmt.Stmt.{Stmt}
 use Rattle.c_grammar.specs.declared.stmt.Stmt.TheVariants as stmt
-use Rattle.c_grammar.specs.Tokens as g
-use Rattle.c_grammar.specs.Tokens.{Tok, Spot, Bounded, tok_of, bounded, bounded_all}
-use Rattle.c_grammar.specs.Expressions.{Expression, Arguments}
-use Rattle.c_grammar.specs.Statements as gr
-use Rattle.c_grammar.specs.Statements.{IsType, Local, Simple, Maybe, Statement}
+use Rattle.c_grammar.specs.BoundedTokens as g
+use Rattle.c_grammar.specs.BoundedTokens.{Tok, Spot, Bounded, tok_of, bounded, bounded_all}
+use Rattle.c_grammar.specs.ExpressionGrammar.{Expression, Arguments}
+use Rattle.c_grammar.specs.StatementGrammar as gr
+use Rattle.c_grammar.specs.StatementGrammar.{IsType, Local, Simple, Maybe, Statement}
 use Rattle.c_parser.specs.declared.cursor.Named.{Named}
 use Rattle.c_parser.specs.declared.statement.Plain.{Plain}
 use Rattle.c_parser.specs.declared.statement.Plain.TheVariants as plain

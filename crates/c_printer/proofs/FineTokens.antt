@@ -5,8 +5,8 @@ use Rattle.std.proofs.lemmas.Bool.{and_from, and_parts}
 use Rattle.std.proofs.lemmas.List.{map-append}
 use Rattle.c_token.specs.declared.Kind.{Kind}
 use Rattle.c_token.specs.Lexemes.{lexeme_of}
-use Rattle.c_token.specs.Plain.{is_in_form}
-use Rattle.c_grammar.specs.Tokens.{Bounded, kinds_of}
+use Rattle.c_token.specs.PlainText.{is_in_form}
+use Rattle.c_grammar.specs.BoundedTokens.{Bounded, kinds_of}
 use Rattle.c_grammar.specs.Places.{limit, AreLimited}
 use Rattle.c_grammar.specs.AlikeKinds.{lexemes_in}
 

@@ -4,7 +4,7 @@ use Rattle.std.specs.Prelude.{map}
 use Rattle.std.proofs.lemmas.List.{append-nil, take_at, length-append}
 use Rattle.c_token.specs.declared.kinds.Kind.{Kind}
 use Rattle.c_token.specs.Lexemes.{lexeme_of}
-use Rattle.c_token.specs.Plain.{plain_spelling, spaced_text, plain_text}
+use Rattle.c_token.specs.PlainText.{plain_spelling, spaced_text, plain_text}
 use Rattle.c_printer.specs.Printing.{spelled, spelled_all}
 
 last_space : (kind : Kind) (kinds : List Kind) → spelled_all (kind ∷ kinds) ≡ plain_text (map lexeme_of (kind ∷ kinds)) ++ 32 ∷ []

@@ -5,8 +5,8 @@ use Rattle.std.proofs.lemmas.List.{append-nil}
 use Rattle.c_token.specs.declared.Kind.TheVariants as kinds
 use Rattle.c_token.specs.declared.Sign.TheVariants as signs
 use Rattle.c_grammar.specs.declared.Expr.{Expr}
-use Rattle.c_grammar.specs.Tokens.{Bounded, kinds_of, sign}
-use Rattle.c_grammar.specs.Expressions.{Expression, Binary, Unary, Primary, Arguments, Listed}
+use Rattle.c_grammar.specs.BoundedTokens.{Bounded, kinds_of, sign}
+use Rattle.c_grammar.specs.ExpressionGrammar.{Expression, Binary, Unary, Primary, Arguments, Listed}
 use Rattle.c_grammar.specs.Printed.{expr_kinds, with_commas, behind_commas, arguments_kinds}
 use Rattle.c_grammar.specs.TreeLaws as laws
 use Rattle.c_printer.proofs.FineTokens.{piece}

@@ -10,7 +10,7 @@ use Rattle.c_token.specs.declared.Kind.TheVariants as kinds
 use Rattle.c_token.specs.declared.Word.TheVariants as words
 use Rattle.c_token.specs.declared.Sign.TheVariants as signs
 use Rattle.c_token.specs.Lexemes.{number}
-use Rattle.c_token.specs.Plain.{is_in_form}
+use Rattle.c_token.specs.PlainText.{is_in_form}
 use Rattle.c_grammar.specs.declared.Stmt.{Stmt}
 use Rattle.c_grammar.specs.declared.Item.{Item}
 use Rattle.c_grammar.specs.declared.Storage.{Storage}
@@ -19,9 +19,9 @@ use Rattle.c_grammar.specs.declared.Value.{Value}
 use Rattle.c_grammar.specs.declared.Parameter.{Parameter}
 use Rattle.c_grammar.specs.declared.Program.{Program}
 use Rattle.c_grammar.specs.Places.{limit}
-use Rattle.c_grammar.specs.Tokens as toks
-use Rattle.c_grammar.specs.Tokens.{Spot, Bounded, kinds_of, name, sign, word}
-use Rattle.c_grammar.specs.Programs.{IsStorage, IsLength, IsValue, AreValues, AreInitial, IsResult, IsParameter, AreListed, AreParameters, IsPrivate, IsItem, AreItems, IsProgram}
+use Rattle.c_grammar.specs.BoundedTokens as toks
+use Rattle.c_grammar.specs.BoundedTokens.{Spot, Bounded, kinds_of, name, sign, word}
+use Rattle.c_grammar.specs.ProgramGrammar.{IsStorage, IsLength, IsValue, AreValues, AreInitial, IsResult, IsParameter, AreListed, AreParameters, IsPrivate, IsItem, AreItems, IsProgram}
 use Rattle.c_grammar.specs.Printed.{type_kind, with_commas, behind_commas, storage_kinds, length_kinds, value_kinds, values_kinds, result_kind, parameter_kinds, parameters_kinds, in_a_row, stmt_kinds, block_kinds, item_kinds, items_kinds, program_kinds}
 use Rattle.c_printer.proofs.FineTokens.{IsFine, AreFine, fine-append, fine-join, piece}
 use Rattle.c_printer.proofs.PrintedStatements.{type_token, printed_type, printed_body}

@@ -7,8 +7,8 @@ use Rattle.c_token.specs.declared.Word.TheVariants as words
 use Rattle.c_token.specs.declared.Sign.TheVariants as signs
 use Rattle.c_grammar.specs.declared.Expr.{Expr}
 use Rattle.c_grammar.specs.declared.Stmt.{Stmt}
-use Rattle.c_grammar.specs.Tokens.{Spot, Bounded, kinds_of, name, sign, word}
-use Rattle.c_grammar.specs.Statements.{IsType, Local, Simple, First, Step, Maybe, Statement, Body}
+use Rattle.c_grammar.specs.BoundedTokens.{Spot, Bounded, kinds_of, name, sign, word}
+use Rattle.c_grammar.specs.StatementGrammar.{IsType, Local, Simple, First, Step, Maybe, Statement, Body}
 use Rattle.c_grammar.specs.Printed.{in_code, in_head, type_kind, expr_kinds, maybe_kinds, head_kinds, initial_kinds, arguments_kinds, stmt_kinds, in_a_row}
 use Rattle.c_grammar.specs.TreeLaws as laws
 use Rattle.c_printer.proofs.FineTokens.{IsFine, AreFine, fine-append, fine-join, piece}

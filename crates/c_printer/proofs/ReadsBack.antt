@@ -5,12 +5,12 @@ use Rattle.std.specs.List.{list_all}
 use Rattle.c_token.specs.declared.Token.{Token}
 use Rattle.c_token.specs.declared.TokenError.{TokenError}
 use Rattle.c_token.specs.Lexemes.{Placed, placed_all}
-use Rattle.c_token.specs.Tokens.{tokens_of}
-use Rattle.c_token.specs.Plain.{is_in_form, lexemes_of, plain_placed, PlainTextReadsBack}
+use Rattle.c_token.specs.TextTokens.{tokens_of}
+use Rattle.c_token.specs.PlainText.{is_in_form, lexemes_of, plain_placed, PlainTextReadsBack}
 use Rattle.c_grammar.specs.declared.Program.{Program}
-use Rattle.c_grammar.specs.Tokens.{Bounded, kinds_of, numbered, bounded_all}
+use Rattle.c_grammar.specs.BoundedTokens.{Bounded, kinds_of, numbered, bounded_all}
 use Rattle.c_grammar.specs.Places.{limit, Reads}
-use Rattle.c_grammar.specs.Programs.{IsProgram}
+use Rattle.c_grammar.specs.ProgramGrammar.{IsProgram}
 use Rattle.c_grammar.specs.Same.{Same}
 use Rattle.c_grammar.specs.Printed.{program_kinds}
 use Rattle.c_grammar.specs.AlikeKinds.{lexemes_in, alike_numbered, numbered_limited, kinds-numbered}

@@ -7,14 +7,14 @@ use Rattle.c_token.specs.declared.Kind.TheVariants as kinds
 use Rattle.c_token.specs.declared.Word.TheVariants as words
 use Rattle.c_token.specs.declared.Sign.TheVariants as signs
 use Rattle.c_token.specs.Lexemes.{name}
-use Rattle.c_token.specs.Plain.{is_in_form}
+use Rattle.c_token.specs.PlainText.{is_in_form}
 use Rattle.c_grammar.specs.declared.expr.Expr.TheVariants.{Number}
 use Rattle.c_grammar.specs.Places.{Reads}
-use Rattle.c_grammar.specs.Tokens as toks
-use Rattle.c_grammar.specs.Tokens.{Spot, Bounded}
-use Rattle.c_grammar.specs.Expressions.{Expression, Binary, Unary, Primary}
-use Rattle.c_grammar.specs.Statements.{IsType, Simple, Statement, Maybe, Body}
-use Rattle.c_grammar.specs.Programs.{IsPrivate, IsResult, AreParameters, IsItem, AreItems}
+use Rattle.c_grammar.specs.BoundedTokens as toks
+use Rattle.c_grammar.specs.BoundedTokens.{Spot, Bounded}
+use Rattle.c_grammar.specs.ExpressionGrammar.{Expression, Binary, Unary, Primary}
+use Rattle.c_grammar.specs.StatementGrammar.{IsType, Simple, Statement, Maybe, Body}
+use Rattle.c_grammar.specs.ProgramGrammar.{IsPrivate, IsResult, AreParameters, IsItem, AreItems}
 use Rattle.c_printer.specs.Examples.{release_of, worked_program}
 use Rattle.c_printer.specs.Printing.{IsPrintable}
 

@@ -4,8 +4,8 @@ use Rattle.std.specs.Prelude.{map}
 use Rattle.std.specs.List.{list_all}
 use Rattle.c_token.specs.declared.Token.{Token}
 use Rattle.c_token.specs.Lexemes.{lexeme_of, placed_all}
-use Rattle.c_token.specs.Tokens.{tokens_of}
-use Rattle.c_token.specs.Plain.{is_in_form, lexemes_of, TokensAreInForm}
+use Rattle.c_token.specs.TextTokens.{tokens_of}
+use Rattle.c_token.specs.PlainText.{is_in_form, lexemes_of, TokensAreInForm}
 use Rattle.c_grammar.specs.declared.Program.{Program}
 use Rattle.c_grammar.specs.Places.{Reads}
 use Rattle.c_grammar.specs.AlikeKinds.{lexemes_in}

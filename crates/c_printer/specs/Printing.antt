@@ -8,8 +8,8 @@ use Rattle.c_token.specs.declared.words.Word.TheVariants as words
 use Rattle.c_token.specs.declared.signs.Sign.TheVariants as signs
 use Rattle.c_token.specs.declared.Token.{Token}
 use Rattle.c_token.specs.Lexemes.{lexeme_of, placed_all}
-use Rattle.c_token.specs.Plain.{plain_spelling, plain_text, is_in_form}
-use Rattle.c_token.specs.Tokens.{tokens_of}
+use Rattle.c_token.specs.PlainText.{plain_spelling, plain_text, is_in_form}
+use Rattle.c_token.specs.TextTokens.{tokens_of}
 use Rattle.c_grammar.specs.declared.Expr.{Expr}
 use Rattle.c_grammar.specs.declared.Program.{Program}
 use Rattle.c_grammar.specs.Places.{Reads}

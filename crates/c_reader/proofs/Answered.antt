@@ -3,8 +3,8 @@ use Rattle.std.proofs.Common.{◌≡◌, ℕ, zero, suc, ◌+◌, ◌<◌, ◌�
 use Rattle.std.proofs.lemmas.List.{map-append}
 use Rattle.c_token.specs.declared.kinds.Kind.{Kind}
 use Rattle.c_grammar.specs.declared.item.Program.{Program}
-use Rattle.c_grammar.specs.Tokens.{Tok, Bounded, tok_of, toks_of, kinds_of, numbered, bounded_all}
-use Rattle.c_grammar.specs.Programs.{IsProgram}
+use Rattle.c_grammar.specs.BoundedTokens.{Tok, Bounded, tok_of, toks_of, kinds_of, numbered, bounded_all}
+use Rattle.c_grammar.specs.ProgramGrammar.{IsProgram}
 use Rattle.c_grammar.specs.Places.{Reads, AreLimited, IsText, BeginsWithin, Begins, IsExpectedAt, IsDeepAt, IsShallowBefore}
 use Rattle.c_grammar.specs.Alike.{AllAlike, none_left, one_more}
 use Rattle.c_grammar.specs.AlikeKinds.{alike, kinds-numbered}

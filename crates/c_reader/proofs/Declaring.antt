@@ -12,12 +12,12 @@ use Rattle.c_grammar.specs.declared.item.Kind3.TheVariants as kind3
 use Rattle.c_grammar.specs.declared.item.Parameter.{Parameter}
 use Rattle.c_grammar.specs.declared.item.Value.{Value}
 use Rattle.c_grammar.specs.declared.item.Program.{Program}
-use Rattle.c_grammar.specs.Tokens as g
-use Rattle.c_grammar.specs.Tokens.{Tok, Spot, Bounded}
-use Rattle.c_grammar.specs.Statements as gs
-use Rattle.c_grammar.specs.Statements.{IsType, Body}
-use Rattle.c_grammar.specs.Programs as gr
-use Rattle.c_grammar.specs.Programs.{IsStorage, IsLength, IsValue, AreValues, AreInitial, IsResult, IsParameter, AreListed, AreParameters, IsPrivate, IsItem, AreItems, IsProgram}
+use Rattle.c_grammar.specs.BoundedTokens as g
+use Rattle.c_grammar.specs.BoundedTokens.{Tok, Spot, Bounded}
+use Rattle.c_grammar.specs.StatementGrammar as gs
+use Rattle.c_grammar.specs.StatementGrammar.{IsType, Body}
+use Rattle.c_grammar.specs.ProgramGrammar as gr
+use Rattle.c_grammar.specs.ProgramGrammar.{IsStorage, IsLength, IsValue, AreValues, AreInitial, IsResult, IsParameter, AreListed, AreParameters, IsPrivate, IsItem, AreItems, IsProgram}
 use Rattle.c_parser.specs.declared.cursor.Named.{Named}
 use Rattle.c_parser.specs.declared.statement.Braces.{Braces}
 use Rattle.c_reader.specs.declared.item.Heading.{Heading}

@@ -2,7 +2,7 @@
 use Rattle.std.proofs.Common.{◌≡◌, ℕ, List, Ok, subst}
 use Rattle.c_token.specs.declared.kinds.Token.{Token}
 use Rattle.c_token.specs.Lexemes.{placed_all}
-use Rattle.c_token.specs.Tokens.{tokens_of}
+use Rattle.c_token.specs.TextTokens.{tokens_of}
 use Rattle.c_grammar.specs.Places.{Reads}
 use Rattle.c_reader.specs.Refusals.{OneProgram}
 use Rattle.c_text.specs.Texts.{kinds_in}

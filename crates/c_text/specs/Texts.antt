@@ -4,7 +4,7 @@ use Rattle.c_token.specs.declared.kinds.Kind.{Kind}
 use Rattle.c_token.specs.declared.kinds.Token.{Token}
 use Rattle.c_token.specs.declared.kinds.TokenError.{TokenError}
 use Rattle.c_token.specs.Lexemes.{placed_all}
-use Rattle.c_token.specs.Tokens.{tokens_of}
+use Rattle.c_token.specs.TextTokens.{tokens_of}
 use Rattle.c_grammar.specs.declared.item.Program.{Program}
 use Rattle.c_grammar.specs.Places.{Reads}
 use Rattle.c_reader.specs.declared.error.SyntaxError.{SyntaxError}

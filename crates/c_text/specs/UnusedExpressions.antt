@@ -3,8 +3,8 @@ use Rattle.std.proofs.Common.{ℕ, List, [], ◌∷◌}
 use Rattle.std.proofs.lemmas.List.{map-append}
 use Rattle.c_token.specs.declared.signs.Sign.TheVariants.{RightParenthesis, RightBracket, Comma}
 use Rattle.c_grammar.specs.declared.expr.Expr.{Expr}
-use Rattle.c_grammar.specs.Tokens.{Bounded, sign}
-use Rattle.c_grammar.specs.Expressions.{Expression, Binary, Unary, Primary, Arguments, Listed, whole, alone, tighter, both, primary, operation, literal, variable, element, call, input, parenthesised, nothing, some, one, further}
+use Rattle.c_grammar.specs.BoundedTokens.{Bounded, sign}
+use Rattle.c_grammar.specs.ExpressionGrammar.{Expression, Binary, Unary, Primary, Arguments, Listed, whole, alone, tighter, both, primary, operation, literal, variable, element, call, input, parenthesised, nothing, some, one, further}
 use Rattle.c_text.specs.Unused.{blank_name, blank_expr, blank_exprs}
 use Rattle.c_text.specs.UnusedForms.{blank_expr-Number, blank_expr-Name, blank_expr-Index, blank_expr-Call, blank_expr-Input, blank_expr-Paren, blank_expr-Unary, blank_expr-Binary}
 use Rattle.c_text.specs.UnusedKinds.{blank_token, blank_tokens}

@@ -5,7 +5,7 @@ use Rattle.c_token.specs.declared.kinds.Kind.{Kind}
 use Rattle.c_token.specs.declared.kinds.Kind.TheVariants as kinds
 use Rattle.c_token.specs.declared.kinds.Token.{Token}
 use Rattle.c_token.specs.Lexemes.{Lexeme, name, number, word, sign, Placed, lexeme_of, placed_all}
-use Rattle.c_grammar.specs.Tokens.{Bounded, numbered, bounded_all}
+use Rattle.c_grammar.specs.BoundedTokens.{Bounded, numbered, bounded_all}
 
 -- the kind that a lexeme is
 abbrev pub kind_of : Lexeme → Kind

@@ -9,8 +9,8 @@ use Rattle.c_grammar.specs.declared.item.Value.{Value}
 use Rattle.c_grammar.specs.declared.item.Parameter.{Parameter}
 use Rattle.c_grammar.specs.declared.item.Item.{Item}
 use Rattle.c_grammar.specs.declared.item.Program.{Program}
-use Rattle.c_grammar.specs.Tokens.{Bounded, name, sign}
-use Rattle.c_grammar.specs.Programs.{IsStorage, IsLength, IsValue, AreValues, AreInitial, IsResult, IsParameter, AreListed, AreParameters, IsPrivate, IsItem, AreItems}
+use Rattle.c_grammar.specs.BoundedTokens.{Bounded, name, sign}
+use Rattle.c_grammar.specs.ProgramGrammar.{IsStorage, IsLength, IsValue, AreValues, AreInitial, IsResult, IsParameter, AreListed, AreParameters, IsPrivate, IsItem, AreItems}
 use Rattle.c_grammar.specs.Places.{limit, Reads}
 use Rattle.c_text.specs.Unused.{blank_name, blank_parameter, blank_parameters, blank_item, blank_items, blank}
 use Rattle.c_text.specs.UnusedKinds.{blank_token, blank_tokens, blank_kinds, tokens-numbered}

@@ -5,8 +5,8 @@ use Rattle.c_token.specs.declared.signs.Sign.TheVariants.{RightParenthesis, Righ
 use Rattle.c_token.specs.declared.words.Word.TheVariants as w
 use Rattle.c_grammar.specs.declared.expr.Expr.{Expr}
 use Rattle.c_grammar.specs.declared.stmt.Stmt.{Stmt}
-use Rattle.c_grammar.specs.Tokens.{Spot, Bounded, name, word, sign}
-use Rattle.c_grammar.specs.Statements.{IsType, Local, Simple, First, Step, Maybe, Statement, Body}
+use Rattle.c_grammar.specs.BoundedTokens.{Spot, Bounded, name, word, sign}
+use Rattle.c_grammar.specs.StatementGrammar.{IsType, Local, Simple, First, Step, Maybe, Statement, Body}
 use Rattle.c_text.specs.Unused.{blank_name, blank_part, blank_stmt, blank_stmts, blank_branch}
 use Rattle.c_text.specs.UnusedForms.{blank_stmt-Block, blank_stmt-Empty, blank_stmt-Local, blank_stmt-Assign, blank_stmt-Call, blank_stmt-Release, blank_stmt-Check, blank_stmt-Return, blank_stmt-Break, blank_stmt-Continue, blank_stmt-If, blank_stmt-While, blank_stmt-For}
 use Rattle.c_text.specs.UnusedKinds.{blank_token, blank_tokens}

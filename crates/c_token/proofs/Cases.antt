@@ -5,8 +5,8 @@ use Rattle.std.specs.List.{starts_with, position_or_len}
 use Rattle.std.proofs.lemmas.Bool.{cond-true, cond-false}
 use Rattle.std.proofs.lemmas.List.{drop_more}
 use Rattle.c_token.specs.declared.kinds.TokenError.TheVariants.{OpenComment}
-use Rattle.c_token.specs.Spelling.{is_token}
-use Rattle.c_token.specs.Tokens.{is_blank, begins_with, longest, close_of, gap, block_comment, token_of_len, front_at}
+use Rattle.c_token.specs.TokenSpelling.{is_token}
+use Rattle.c_token.specs.TextTokens.{is_blank, begins_with, longest, close_of, gap, block_comment, token_of_len, front_at}
 
 pub begins_with-first : (passes : ℕ → Bool) (text : List ℕ) (b : ℕ) → 0 < length text → b ≡ get_or text 0 0 → begins_with passes text ≡ passes b
 begins_with-first passes [] b some first = absurd (omega arith)

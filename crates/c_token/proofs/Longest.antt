@@ -2,7 +2,7 @@
 use Rattle.std.proofs.Common.{◌≡◌, ℕ, zero, suc, ◌+◌, ◌<◌, ◌≤◌, Bool, true, false, cond, List, [], ◌∷◌, length, take, refl, ap, ◌∙◌, ⊎_elim, arith}
 use Rattle.std.specs.List.{list_all, prefix_len}
 use Rattle.std.proofs.lemmas.Bool.{cases_Bool, cond-true, cond-false, cases_eq}
-use Rattle.c_token.specs.Tokens.{longest_upto, longest}
+use Rattle.c_token.specs.TextTokens.{longest_upto, longest}
 
 -- no more than `top` first bytes are considered
 longest_upto-is : (passes : List ℕ → Bool) (text : List ℕ) (n top : ℕ) → n ≤ top → (0 < n → passes (take n text) ≡ true)

@@ -9,15 +9,15 @@ use Rattle.std.proofs.lemmas.Str.{IsUtf8-from_ascii}
 use Rattle.std.proofs.lemmas.Str.Ascii.{IsAscii-from_reads}
 use Rattle.c_token.specs.declared.words.Word.{Word}
 use Rattle.c_token.specs.declared.kinds.TokenError.TheVariants.{LongName}
-use Rattle.c_token.specs.Lexemes.{name, word}
-use Rattle.c_token.specs.Words.{word_of}
-use Rattle.c_token.specs.Spelling.{is_name_start, is_name_byte, word_or_name, spelled, is_token}
-use Rattle.c_token.specs.Tokens.{begins_with, longest, judged, token_of_len, token}
+use Rattle.c_token.specs.declared.kinds.Kind.TheVariants as kinds
+use Rattle.c_token.specs.WordSpelling.{word_spelled}
+use Rattle.c_token.specs.TokenSpelling.{is_name_start, is_name_byte, word_or_name, spelled, is_token}
+use Rattle.c_token.specs.TextTokens.{begins_with, longest, judged, token_of_len, token}
 use Rattle.c_token.proofs.Longest.{longest_is, all_within, all_beyond}
 use Rattle.c_token.proofs.Classes.{spelled-start, spelled-start_none, start_is_byte}
 
 pub spelled-name : (text : List ℕ) (m : ℕ) → begins_with is_name_start text ≡ true → 0 < m → m ≤ prefix_len is_name_byte text
-    → spelled (take m text) ≡ Some (word_or_name (word_of (take m text)) (take m text))
+    → spelled (take m text) ≡ Some (word_or_name (word_spelled (take m text)) (take m text))
 spelled-name [] m start pos le = cc
 spelled-name (b ∷ bs) zero start pos le = absurd (omega arith)
 spelled-name (b ∷ bs) (suc m) start pos le =
@@ -52,7 +52,7 @@ name_is_text text =
 -- the longest token, whose bytes spell a word or a name
 longest-judged : (at : ℕ) (text : List ℕ) → begins_with is_name_start text ≡ true
     → let bytes = take (prefix_len is_name_byte text) text in
-    token_of_len at text (longest is_token text) ≡ judged at bytes (drop (prefix_len is_name_byte text) text) (Some (word_or_name (word_of bytes) bytes))
+    token_of_len at text (longest is_token text) ≡ judged at bytes (drop (prefix_len is_name_byte text) text) (Some (word_or_name (word_spelled bytes) bytes))
 unfolding token_of_len
 longest-judged at text start =
     let n = prefix_len is_name_byte text in
@@ -64,36 +64,37 @@ longest-judged at text start =
     positive (b ∷ bs) start = rw (cond-true (is_name_byte b) (1 + prefix_len is_name_byte bs) 0 (start_is_byte b start)) (omega arith)
 
 -- a word
-pub is_word_front : (at : ℕ) (text : List ℕ) (w : Word) → begins_with is_name_start text ≡ true → word_of (take (prefix_len is_name_byte text) text) ≡ Some w
-    → token_of_len at text (longest is_token text) ≡ Ok (token (word w) (prefix_len is_name_byte text))
+pub is_word_front : (at : ℕ) (text : List ℕ) (w : Word) → begins_with is_name_start text ≡ true → word_spelled (take (prefix_len is_name_byte text) text) ≡ Some w
+    → token_of_len at text (longest is_token text) ≡ Ok (token (kinds.Word w) (prefix_len is_name_byte text))
 unfolding judged
 is_word_front at text w start found =
     let n = prefix_len is_name_byte text in
     longest-judged at text start
     ∙ ap (λ o. judged at (take n text) (drop n text) (Some (word_or_name o (take n text)))) found
-    ∙ ap (λ m. Ok (token (word w) m)) (length-take-le n text (prefix_len-le-length is_name_byte text))
+    ∙ ap (λ m. Ok (token (kinds.Word w) m)) (length-take-le n text (prefix_len-le-length is_name_byte text))
 
 -- or a name
-is_name_judged : (at : ℕ) (text : List ℕ) → begins_with is_name_start text ≡ true → word_of (take (prefix_len is_name_byte text) text) ≡ None
+is_name_judged : (at : ℕ) (text : List ℕ) → begins_with is_name_start text ≡ true → word_spelled (take (prefix_len is_name_byte text) text) ≡ None
     → let bytes = take (prefix_len is_name_byte text) text in
-    token_of_len at text (longest is_token text) ≡ cond (ltb 31 (length bytes)) (Err (LongName at)) (Ok (token (name bytes) (length bytes)))
+    token_of_len at text (longest is_token text) ≡ cond (ltb 31 (length bytes)) (Err (LongName at)) (Ok (token (kinds.Name bytes) (length bytes)))
 unfolding judged
 is_name_judged at text start found =
     let n = prefix_len is_name_byte text in
     longest-judged at text start ∙ ap (λ o. judged at (take n text) (drop n text) (Some (word_or_name o (take n text)))) found
 
-pub is_name_front : (at : ℕ) (text : List ℕ) (bytes : List ℕ) → begins_with is_name_start text ≡ true → word_of (take (prefix_len is_name_byte text) text) ≡ None
-    → bytes ≡ take (prefix_len is_name_byte text) text → length bytes ≤ 31
-    → token_of_len at text (longest is_token text) ≡ Ok (token (name bytes) (prefix_len is_name_byte text))
-is_name_front at text bytes start found same short =
+pub is_name_front : (at : ℕ) (text : List ℕ) → begins_with is_name_start text ≡ true → word_spelled (take (prefix_len is_name_byte text) text) ≡ None
+    → prefix_len is_name_byte text ≤ 31
+    → token_of_len at text (longest is_token text) ≡ Ok (token (kinds.Name (take (prefix_len is_name_byte text) text)) (prefix_len is_name_byte text))
+is_name_front at text start found short =
     let n = prefix_len is_name_byte text in
     let len = length-take-le n text (prefix_len-le-length is_name_byte text) in
     is_name_judged at text start found
-    ∙ cond-false (ltb 31 (length (take n text))) _ _ (le-ltb 31 (length (take n text)) (omega (arith, ap length same)))
-    ∙ ap (λ m. Ok (token (name (take n text)) m)) len
-    ∙ ap (λ bytes. Ok (token (name bytes) n)) (sym same)
+    ∙ cond-false (ltb 31 (length (take n text))) _ _ (le-ltb 31 (length (take n text)) (rw len short))
+    ∙ ap (λ m. Ok (token (kinds.Name (take n text)) m)) len
 
-pub is_long_name : (at : ℕ) (text : List ℕ) → begins_with is_name_start text ≡ true → word_of (take (prefix_len is_name_byte text) text) ≡ None
-    → 31 < length (take (prefix_len is_name_byte text) text) → token_of_len at text (longest is_token text) ≡ Err (LongName at)
+pub is_long_name : (at : ℕ) (text : List ℕ) → begins_with is_name_start text ≡ true → word_spelled (take (prefix_len is_name_byte text) text) ≡ None
+    → 31 < prefix_len is_name_byte text → token_of_len at text (longest is_token text) ≡ Err (LongName at)
 is_long_name at text start found above =
-    is_name_judged at text start found ∙ cond-true (ltb 31 (length (take (prefix_len is_name_byte text) text))) _ _ (lt-ltb _ _ above)
+    let n = prefix_len is_name_byte text in
+    is_name_judged at text start found
+    ∙ cond-true (ltb 31 (length (take n text))) _ _ (lt-ltb _ _ (rw (length-take-le n text (prefix_len-le-length is_name_byte text)) above))

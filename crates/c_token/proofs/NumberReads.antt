@@ -11,9 +11,9 @@ use Rattle.std.proofs.lemmas.List.Sums.{prefix_len-le-length}
 use Rattle.std.proofs.lemmas.Str.{IsUtf8-from_ascii}
 use Rattle.std.proofs.lemmas.Str.Ascii.{IsAscii-nil, IsAscii-cons}
 use Rattle.c_token.specs.declared.kinds.TokenError.TheVariants.{BadNumber, BigNumber}
-use Rattle.c_token.specs.Lexemes.{number}
-use Rattle.c_token.specs.Spelling.{is_name_byte}
-use Rattle.c_token.specs.Tokens.{begins_with, has_leading_zero, judged, token}
+use Rattle.c_token.specs.declared.kinds.Kind.TheVariants as kinds
+use Rattle.c_token.specs.TokenSpelling.{is_name_byte}
+use Rattle.c_token.specs.TextTokens.{begins_with, has_leading_zero, judged, token}
 use Rattle.c_token.specs.Fronts.{number_end, number_at}
 
 -- digits are a text
@@ -84,12 +84,12 @@ module _ (at : ℕ) (text : List ℕ) (base start end : ℕ) where
   number_is_big fine big = cond-false is_bad _ _ fine ∙ cond-true (ltb 4294967295 value) _ _ (lt-ltb _ _ big)
 
   pub number_is_fine : is_bad ≡ false → value ≤ 4294967295 → len ≤ length text
-      → number_at at text base start end ≡ Ok (token (number value (ltb end len || ltb 2147483647 value)) len)
+      → number_at at text base start end ≡ Ok (token (kinds.Number value (ltb end len || ltb 2147483647 value)) len)
   unfolding number_at judged
   number_is_fine fine small le =
       cond-false is_bad _ _ fine
       ∙ cond-false (ltb 4294967295 value) _ _ (le-ltb _ _ small)
-      ∙ ap (λ n. Ok (token (number value (ltb end len || ltb 2147483647 value)) n)) (length-take-le len text le)
+      ∙ ap (λ n. Ok (token (kinds.Number value (ltb end len || ltb 2147483647 value)) n)) (length-take-le len text le)
 
 -- what parsing the digits says
 pub parsed_fits : (base : ℕ) (ds text : List ℕ) (value : ℕ) → base ≤ 36 → AllDigits base ds → text ≡ ds

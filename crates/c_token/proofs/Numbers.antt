@@ -9,9 +9,10 @@ use Rattle.std.proofs.lemmas.Bool.Decides.{nat_tests, Decides-eqb}
 use Rattle.std.proofs.lemmas.List.{drop-take, take-take, length-take-le, length-drop, take-append-drop, drop_all, length-take}
 use Rattle.std.proofs.lemmas.List.Sums.{prefix_len-le-length}
 use Rattle.std.proofs.lemmas.Slice.Eq.{starts_is}
-use Rattle.c_token.specs.Lexemes.{Lexeme, number}
-use Rattle.c_token.specs.Spelling.{is_suffix_byte, is_suffix, has_digits, is_decimal, has_hexadecimal_prefix, is_hexadecimal, number_of, spelled, is_token}
-use Rattle.c_token.specs.Tokens.{begins_with, longest, judged, token_of_len}
+use Rattle.c_token.specs.declared.kinds.Kind.{Kind}
+use Rattle.c_token.specs.declared.kinds.Kind.TheVariants as kinds
+use Rattle.c_token.specs.TokenSpelling.{is_suffix_byte, is_suffix, has_digits, is_decimal, has_hexadecimal_prefix, is_hexadecimal, number_spelled, spelled, is_token}
+use Rattle.c_token.specs.TextTokens.{begins_with, longest, judged, token_of_len}
 use Rattle.c_token.specs.Fronts.{begins_hexadecimal, suffix_len, number_end, number_at}
 use Rattle.c_token.proofs.Longest.{longest_is, prefix_len-take_beyond}
 use Rattle.c_token.proofs.Classes.{has_digits-none, spelled-decimal, spelled-hexadecimal, spelled-digit_none}
@@ -57,11 +58,11 @@ module _ (p : ℕ → Bool) where
       ∙ and_right _ _ (is_suffix-beyond (drop d xs) (m - d) (omega arith) (omega (arith, length-drop d xs)))
 
   -- the number that a front spells
-  number_of-take : (base : ℕ) (xs : List ℕ) (m : ℕ) → prefix_len p xs ≤ m → m ≤ length xs → number_of base p (take m xs)
-      ≡ number (digits_value base (take (prefix_len p xs) xs)) (ltb (prefix_len p xs) m || ltb 2147483647 (digits_value base (take (prefix_len p xs) xs)))
-  number_of-take base xs m above within =
+  number_spelled-take : (base : ℕ) (xs : List ℕ) (m : ℕ) → prefix_len p xs ≤ m → m ≤ length xs → number_spelled base p (take m xs)
+      ≡ kinds.Number (digits_value base (take (prefix_len p xs) xs)) (ltb (prefix_len p xs) m || ltb 2147483647 (digits_value base (take (prefix_len p xs) xs)))
+  number_spelled-take base xs m above within =
       let d = prefix_len p xs in
-      let f : ℕ → List ℕ → ℕ → Lexeme = λ d digits n. number (digits_value base digits) (ltb d n || ltb 2147483647 (digits_value base digits)) in
+      let f : ℕ → List ℕ → ℕ → Kind = λ d digits n. kinds.Number (digits_value base digits) (ltb d n || ltb 2147483647 (digits_value base digits)) in
       ap (λ d. f d (take d (take m xs)) (length (take m xs))) (prefix_len-take_beyond p xs m above)
       ∙ ap (λ digits. f d digits (length (take m xs))) (take-take d m xs above)
       ∙ ap (λ n. f d (take d xs) n) (length-take-le m xs within)
@@ -122,7 +123,7 @@ positive b bs digit = rw (cond-true (is_ascii_digit b) (1 + prefix_len is_ascii_
 
 -- the front that ends behind the digits and their suffix
 pub spelled-decimal_front : (text : List ℕ) → begins_with is_ascii_digit text ≡ true
-    → spelled (take (number_end text (prefix_len is_ascii_digit text)) text) ≡ Some (number_of 10 is_ascii_digit (take (number_end text (prefix_len is_ascii_digit text)) text))
+    → spelled (take (number_end text (prefix_len is_ascii_digit text)) text) ≡ Some (number_spelled 10 is_ascii_digit (take (number_end text (prefix_len is_ascii_digit text)) text))
 spelled-decimal_front [] digit = absurd (false≢true digit)
 spelled-decimal_front (b ∷ bs) digit = front b bs _ digit (positive_end b bs digit) (has_digits-at is_ascii_digit (b ∷ bs) (positive b bs digit))
   where
@@ -130,7 +131,7 @@ spelled-decimal_front (b ∷ bs) digit = front b bs _ digit (positive_end b bs d
     positive_end b bs digit = omega (arith, positive b bs digit)
 
     front : (b : ℕ) (bs : List ℕ) (m : ℕ) → is_ascii_digit b ≡ true → 0 < m → has_digits is_ascii_digit (take m (b ∷ bs)) ≡ true
-        → spelled (take m (b ∷ bs)) ≡ Some (number_of 10 is_ascii_digit (take m (b ∷ bs)))
+        → spelled (take m (b ∷ bs)) ≡ Some (number_spelled 10 is_ascii_digit (take m (b ∷ bs)))
     front b bs zero digit pos decimal = absurd (omega arith)
     front b bs (suc m) digit pos decimal = spelled-decimal b (take m bs) digit decimal
 
@@ -165,7 +166,7 @@ module _ (c : ℕ) (no_digit : is_ascii_digit c ≡ false) (prefix : (ys : List 
   no_decimal y ys = has_digits-count is_ascii_digit (48 ∷ c ∷ y ∷ ys) 1 (rw no_digit refl)
 
   spelled-prefixed : (ys : List ℕ) (m : ℕ) → 0 < m → m ≤ length ys → has_digits is_ascii_hexdigit (take m ys) ≡ true
-      → spelled (take (suc (suc m)) (48 ∷ c ∷ ys)) ≡ Some (number_of 16 is_ascii_hexdigit (take m ys))
+      → spelled (take (suc (suc m)) (48 ∷ c ∷ ys)) ≡ Some (number_spelled 16 is_ascii_hexdigit (take m ys))
   spelled-prefixed ys zero pos le digits = absurd (omega arith)
   spelled-prefixed [] (suc m) pos le digits = absurd (omega arith)
   spelled-prefixed (y ∷ ys) (suc m) pos le digits =
@@ -190,7 +191,7 @@ module _ (c : ℕ) (no_digit : is_ascii_digit c ≡ false) (prefix : (ys : List 
 
   pub spelled-prefixed_front : (ys : List ℕ) → begins_with is_ascii_hexdigit ys ≡ true
       → spelled (take (number_end (48 ∷ c ∷ ys) (hexadecimal_end (48 ∷ c ∷ ys))) (48 ∷ c ∷ ys))
-      ≡ Some (number_of 16 is_ascii_hexdigit (take (number_end ys (prefix_len is_ascii_hexdigit ys)) ys))
+      ≡ Some (number_spelled 16 is_ascii_hexdigit (take (number_end ys (prefix_len is_ascii_hexdigit ys)) ys))
   spelled-prefixed_front ys begins =
       let d = prefix_len is_ascii_hexdigit ys in
       let pos = digits-positive ys begins in
@@ -217,13 +218,13 @@ module _ (c : ℕ) (no_digit : is_ascii_digit c ≡ false) (prefix : (ys : List 
       let end = hexadecimal_end text in
       let len = number_end text end in
       let two : number_end text (2 + d) ≡ suc (suc (number_end ys d)) = number_end-prefixed ys d in
-      let f : Bool → List ℕ → Lexeme = λ suffixed digits. number (digits_value 16 digits) (suffixed || ltb 2147483647 (digits_value 16 digits)) in
+      let f : Bool → List ℕ → Kind = λ suffixed digits. kinds.Number (digits_value 16 digits) (suffixed || ltb 2147483647 (digits_value 16 digits)) in
       let counted : d ≡ 2 + d - 2 = omega arith in
       let flag : ltb d (number_end ys d) ≡ ltb end len = same_flag d (number_end ys d) len two in
-      let value = number_of-take is_ascii_hexdigit 16 ys (number_end ys d) (omega arith) (number_end-le ys d (prefix_len-le-length is_ascii_hexdigit ys)) in
+      let value = number_spelled-take is_ascii_hexdigit 16 ys (number_end ys d) (omega arith) (number_end-le ys d (prefix_len-le-length is_ascii_hexdigit ys)) in
       ap (λ n. judged at (take n text) (drop n text) (spelled (take n text))) (longest-prefixed ys begins)
       ∙ ap (judged at (take len text) (drop len text))
-      (spelled-prefixed_front ys begins ∙ ap (λ (lexeme : Lexeme). Some lexeme) (value ∙ ap (λ suffixed. f suffixed (take d ys)) flag ∙ ap (λ n. f (ltb end len) (take n ys)) counted))
+      (spelled-prefixed_front ys begins ∙ ap (λ (kind : Kind). Some kind) (value ∙ ap (λ suffixed. f suffixed (take d ys)) flag ∙ ap (λ n. f (ltb end len) (take n ys)) counted))
     where
       same_flag : (d n len : ℕ) → len ≡ suc (suc n) → ltb d n ≡ ltb (2 + d) len
       same_flag d n len e = grind (arith, nat_tests)
@@ -235,12 +236,12 @@ unfolding token_of_len number_at
 number-decimal at text digit none =
     let d = prefix_len is_ascii_digit text in
     let len = number_end text d in
-    let f : List ℕ → Lexeme = λ digits. number (digits_value 10 digits) (ltb d len || ltb 2147483647 (digits_value 10 digits)) in
+    let f : List ℕ → Kind = λ digits. kinds.Number (digits_value 10 digits) (ltb d len || ltb 2147483647 (digits_value 10 digits)) in
     let counted : d ≡ d - 0 = omega arith in
-    let value = number_of-take is_ascii_digit 10 text len (omega arith) (number_end-le text d (prefix_len-le-length is_ascii_digit text)) in
+    let value = number_spelled-take is_ascii_digit 10 text len (omega arith) (number_end-le text d (prefix_len-le-length is_ascii_digit text)) in
     ap (λ n. judged at (take n text) (drop n text) (spelled (take n text))) (longest-decimal text digit none)
     ∙ ap (judged at (take len text) (drop len text))
-    (spelled-decimal_front text digit ∙ ap (λ (lexeme : Lexeme). Some lexeme) (value ∙ ap (λ n. f (take n text)) counted))
+    (spelled-decimal_front text digit ∙ ap (λ (kind : Kind). Some kind) (value ∙ ap (λ n. f (take n text)) counted))
 
 -- or hexadecimal
 pub number-hexadecimal : (at : ℕ) (text : List ℕ) → begins_hexadecimal text ≡ true

@@ -7,11 +7,11 @@ use Rattle.std.proofs.lemmas.Bool.Decides.{nat_tests}
 use Rattle.std.proofs.lemmas.List.{take_at}
 use Rattle.c_token.specs.declared.words.Word.{Word}
 use Rattle.c_token.specs.declared.words.Word.TheVariants.{Int}
-use Rattle.c_token.specs.Lexemes.{name, word}
-use Rattle.c_token.specs.Words.{word_spelling, word_of}
-use Rattle.c_token.specs.Spelling.{is_name_start, is_name_byte, is_name, is_token}
-use Rattle.c_token.specs.Tokens.{is_blank, begins_with, longest, token_of_len, token, front_at}
-use Rattle.c_token.specs.Plain.{is_in_form}
+use Rattle.c_token.specs.declared.kinds.Kind.TheVariants as kinds
+use Rattle.c_token.specs.WordSpelling.{word_spelling, word_spelled}
+use Rattle.c_token.specs.TokenSpelling.{is_name_start, is_name_byte, is_name, is_token}
+use Rattle.c_token.specs.TextTokens.{is_blank, begins_with, longest, token_of_len, token, front_at}
+use Rattle.c_token.specs.PlainText.{is_in_form}
 use Rattle.c_token.proofs.Cases.{front_is_token}
 use Rattle.c_token.proofs.Names.{is_word_front, is_name_front}
 
@@ -69,25 +69,26 @@ pub word_is_name : (w : Word) → is_name (word_spelling w) ≡ true
 word_is_name Int = refl
 word_is_name _ = refl
 
-word_is_own : (w : Word) → word_of (word_spelling w) ≡ Some w
+word_is_own : (w : Word) → word_spelled (word_spelling w) ≡ Some w
 word_is_own Int = refl
 word_is_own _ = refl
 
-pub word_front : (at : ℕ) (w : Word) (rest : List ℕ) → is_parted rest ≡ true → front_at at (word_spelling w ++ rest) ≡ Ok (token (word w) (length (word_spelling w)))
+pub word_front : (at : ℕ) (w : Word) (rest : List ℕ) → is_parted rest ≡ true → front_at at (word_spelling w ++ rest) ≡ Ok (token (kinds.Word w) (length (word_spelling w)))
 word_front at w rest parted =
     let text = word_spelling w ++ rest in
     let run = name_run (word_spelling w) rest (word_is_name w) parted in
-    front-name at text run.0 ∙ is_word_front at text w run.0 (ap word_of run.2 ∙ word_is_own w) ∙ ap (λ n. Ok (token (word w) n)) run.1
+    front-name at text run.0 ∙ is_word_front at text w run.0 (ap word_spelled run.2 ∙ word_is_own w) ∙ ap (λ n. Ok (token (kinds.Word w) n)) run.1
 
-pub name_front : (at : ℕ) (bytes rest : List ℕ) → is_in_form (name bytes) ≡ true → is_parted rest ≡ true → front_at at (bytes ++ rest) ≡ Ok (token (name bytes) (length bytes))
+pub name_front : (at : ℕ) (bytes rest : List ℕ) → is_in_form (kinds.Name bytes) ≡ true → is_parted rest ≡ true → front_at at (bytes ++ rest) ≡ Ok (token (kinds.Name bytes) (length bytes))
 name_front at bytes rest form parted =
     let parts = and_parts _ _ form in
     let more = and_parts _ _ parts.1 in
     let text = bytes ++ rest in
     let run = name_run bytes rest parts.0 parted in
     front-name at text run.0
-    ∙ is_name_front at text bytes run.0 (ap word_of run.2 ∙ none (word_of bytes) (not-true _ more.0)) (sym run.2) (leb-true _ _ more.1)
-    ∙ ap (λ n. Ok (token (name bytes) n)) run.1
+    ∙ is_name_front at text run.0 (ap word_spelled run.2 ∙ none (word_spelled bytes) (not-true _ more.0)) (rw run.1 (leb-true _ _ more.1))
+    ∙ ap (λ bytes. Ok (token (kinds.Name bytes) (prefix_len is_name_byte text))) run.2
+    ∙ ap (λ n. Ok (token (kinds.Name bytes) n)) run.1
   where
     none : (o : Option Word) → is_some o ≡ false → o ≡ None
     none None h = refl

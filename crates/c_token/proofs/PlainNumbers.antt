@@ -9,12 +9,12 @@ use Rattle.std.proofs.lemmas.Bool.{cases_lt, cond-false, and_parts, and_from, an
 use Rattle.std.proofs.lemmas.Bool.Decides.{nat_tests}
 use Rattle.std.proofs.lemmas.List.{take_at, drop_at, length-append}
 use Rattle.std.proofs.lemmas.Fmt.{decimal_is_IsNumeral, first_decimal, decimal_digit}
-use Rattle.c_token.specs.Lexemes.{number}
-use Rattle.c_token.specs.Spelling.{is_name_byte, is_suffix_byte}
-use Rattle.c_token.specs.Tokens.{is_blank, begins_with, has_leading_zero, longest, token_of_len, token, front_at}
-use Rattle.c_token.specs.Spelling.{is_token}
+use Rattle.c_token.specs.declared.kinds.Kind.TheVariants as kinds
+use Rattle.c_token.specs.TokenSpelling.{is_name_byte, is_suffix_byte}
+use Rattle.c_token.specs.TextTokens.{is_blank, begins_with, has_leading_zero, longest, token_of_len, token, front_at}
+use Rattle.c_token.specs.TokenSpelling.{is_token}
 use Rattle.c_token.specs.Fronts.{begins_hexadecimal, suffix_len, number_end, number_at}
-use Rattle.c_token.specs.Plain.{number_spelling, is_in_form}
+use Rattle.c_token.specs.PlainText.{number_spelling, is_in_form}
 use Rattle.c_token.proofs.Numbers.{number-decimal}
 use Rattle.c_token.proofs.NumberReads.{number_is_fine}
 use Rattle.c_token.proofs.PlainFronts.{is_parted, parted-fails, prefix_len-run, front-plain}
@@ -82,8 +82,8 @@ front-digit : (at : ℕ) (text : List ℕ) → begins_with is_ascii_digit text �
 front-digit at [] digit = absurd (false≢true digit)
 front-digit at (b ∷ bs) digit = let plain = digit_is_plain b digit in front-plain at b bs plain.0 plain.1
 
-number_text : (at value : ℕ) (unsigned : Bool) (rest : List ℕ) → is_in_form (number value unsigned) ≡ true → is_parted rest ≡ true
-    → front_at at (decimal value ++ (suffix unsigned ++ rest)) ≡ Ok (token (number value unsigned) (length (number_spelling value unsigned)))
+number_text : (at value : ℕ) (unsigned : Bool) (rest : List ℕ) → is_in_form (kinds.Number value unsigned) ≡ true → is_parted rest ≡ true
+    → front_at at (decimal value ++ (suffix unsigned ++ rest)) ≡ Ok (token (kinds.Number value unsigned) (length (number_spelling value unsigned)))
 number_text at value unsigned rest form parted =
     let parts = and_parts _ _ form in
     let fits : value ≤ 4294967295 = leb-true _ _ parts.0 in
@@ -120,9 +120,9 @@ number_text at value unsigned rest form parted =
     ∙ number-decimal at text start plain
     ∙ ap (number_at at text 10 0) run
     ∙ number_is_fine at text 10 0 (length ds) (or_from _ _ zero_free letter_free) (rw value_is fits) (within text ds unsigned rest whole end)
-    ∙ ap (λ n. Ok (token (number n (ltb (length ds) (number_end text (length ds)) || ltb 2147483647 (digits_value 10 (take (length ds - 0) (drop 0 text))))) (number_end text (length ds)))) value_is
-    ∙ ap (λ b. Ok (token (number value b) (number_end text (length ds)))) flag
-    ∙ ap (λ n. Ok (token (number value unsigned) n)) end
+    ∙ ap (λ n. Ok (token (kinds.Number n (ltb (length ds) (number_end text (length ds)) || ltb 2147483647 (digits_value 10 (take (length ds - 0) (drop 0 text))))) (number_end text (length ds)))) value_is
+    ∙ ap (λ b. Ok (token (kinds.Number value b) (number_end text (length ds)))) flag
+    ∙ ap (λ n. Ok (token (kinds.Number value unsigned) n)) end
   where
     suffix_is_no_digit : (unsigned : Bool) → begins_with is_ascii_digit (suffix unsigned) ≡ false
     suffix_is_no_digit true = refl
@@ -135,12 +135,12 @@ number_text at value unsigned rest form parted =
     within : (text ds : List ℕ) (unsigned : Bool) (rest : List ℕ) → text ≡ (ds ++ suffix unsigned) ++ rest → number_end text (length ds) ≡ length (ds ++ suffix unsigned) → number_end text (length ds) ≤ length text
     within text ds unsigned rest whole end = omega (arith, end, ap length whole, length-append (ds ++ suffix unsigned) rest)
 
-pub number_front : (at value : ℕ) (unsigned : Bool) (rest : List ℕ) → is_in_form (number value unsigned) ≡ true → is_parted rest ≡ true
-    → front_at at (number_spelling value unsigned ++ rest) ≡ Ok (token (number value unsigned) (length (number_spelling value unsigned)))
+pub number_front : (at value : ℕ) (unsigned : Bool) (rest : List ℕ) → is_in_form (kinds.Number value unsigned) ≡ true → is_parted rest ≡ true
+    → front_at at (number_spelling value unsigned ++ rest) ≡ Ok (token (kinds.Number value unsigned) (length (number_spelling value unsigned)))
 number_front at value unsigned rest form parted =
     ap (front_at at) (append_assoc (decimal value) (suffix unsigned) rest) ∙ number_text at value unsigned rest form parted
 
-pub number_some : (value : ℕ) (unsigned : Bool) → is_in_form (number value unsigned) ≡ true → 0 < length (number_spelling value unsigned)
+pub number_some : (value : ℕ) (unsigned : Bool) → is_in_form (kinds.Number value unsigned) ≡ true → 0 < length (number_spelling value unsigned)
 number_some value unsigned form =
     let fits : value ≤ 4294967295 = leb-true _ _ (and_parts _ _ form).0 in
     omega (arith, length-append (decimal value) (suffix unsigned), (decimal_is_IsNumeral value (omega arith)).0.0)

@@ -7,32 +7,35 @@ use Rattle.std.proofs.lemmas.Bool.Decides.{nat_tests}
 use Rattle.c_token.specs.declared.words.Word.{Word}
 use Rattle.c_token.specs.declared.signs.Sign.{Sign}
 use Rattle.c_token.specs.declared.kinds.TokenError.{TokenError}
-use Rattle.c_token.specs.Lexemes.{Lexeme, sign, Placed}
-use Rattle.c_token.specs.Words.{word_of}
-use Rattle.c_token.specs.Signs.{sign_of}
-use Rattle.c_token.specs.Spelling.{is_name_byte, is_name, is_decimal, is_hexadecimal, number_with, word_or_name, spelled, is_token}
-use Rattle.c_token.specs.Tokens.{Front, is_blank, begins_with, close_of, has_leading_zero, longest, block_comment, judged, token_of_len, front_at, put_before, front_then, tokens_from, tokens_of}
-use Rattle.c_token.specs.Plain.{is_in_form, lexemes_of, TokensAreInForm}
+use Rattle.c_token.specs.declared.kinds.Kind.{Kind}
+use Rattle.c_token.specs.declared.kinds.Kind.TheVariants as kinds
+use Rattle.c_token.specs.declared.kinds.Token.{Token}
+use Rattle.c_token.specs.WordSpelling.{word_spelled}
+use Rattle.c_token.specs.SignSpelling.{sign_spelled}
+use Rattle.c_token.specs.TokenSpelling.{is_name_byte, is_name, is_decimal, is_hexadecimal, number_with, word_or_name, spelled, is_token}
+use Rattle.c_token.specs.declared.front.Front.{Front}
+use Rattle.c_token.specs.TextTokens.{is_blank, begins_with, close_of, has_leading_zero, longest, block_comment, judged, token_of_len, front_at, put_before, front_then, tokens_from, tokens_of}
+use Rattle.c_token.specs.PlainText.{is_in_form, kinds_of, TokensAreInForm}
 
 -- the token of a front, if any
-abbrev is_front_in_form : Option Lexeme → Bool
+abbrev is_front_in_form : Option Kind → Bool
 is_front_in_form None = true
-is_front_in_form (Some lexeme) = is_in_form lexeme
+is_front_in_form (Some kind) = is_in_form kind
 
 abbrev FrontInForm : Result Front TokenError → Type 0
-FrontInForm (Ok front) = is_front_in_form front.lexeme ≡ true
+FrontInForm (Ok front) = is_front_in_form front.kind ≡ true
 FrontInForm (Err error) = Unit {0}
 
-abbrev AllInForm : Result (List Placed) TokenError → Type 0
-AllInForm (Ok placed) = list_all is_in_form (lexemes_of placed) ≡ true
+abbrev AllInForm : Result (List Token) TokenError → Type 0
+AllInForm (Ok tokens) = list_all is_in_form (kinds_of tokens) ≡ true
 AllInForm (Err error) = Unit {0}
 
 -- what bytes spell
 module _ (at : ℕ) (bytes rest : List ℕ) where
-  abbrev IsJudgedInForm : Option Lexeme → Type 0
-  IsJudgedInForm lexeme = FrontInForm (judged at bytes rest lexeme)
+  abbrev IsJudgedInForm : Option Kind → Type 0
+  IsJudgedInForm kind = FrontInForm (judged at bytes rest kind)
 
-  word_or_name_form : (o : Option Word) → word_of bytes ≡ o → is_name bytes ≡ true → IsJudgedInForm (Some (word_or_name o bytes))
+  word_or_name_form : (o : Option Word) → word_spelled bytes ≡ o → is_name bytes ≡ true → IsJudgedInForm (Some (word_or_name o bytes))
   unfolding judged
   word_or_name_form (Some w) found is = refl
   word_or_name_form None found is =
@@ -51,7 +54,7 @@ module _ (at : ℕ) (bytes rest : List ℕ) where
       flag true = refl
       flag false = grind (arith, nat_tests)
 
-  sign_form : (o : Option Sign) → IsJudgedInForm (option_map (λ s. sign s) o)
+  sign_form : (o : Option Sign) → IsJudgedInForm (option_map (λ s. kinds.Sign s) o)
   unfolding judged
   sign_form None = tt
   sign_form (Some s) = refl
@@ -59,12 +62,12 @@ module _ (at : ℕ) (bytes rest : List ℕ) where
   judged_form : IsJudgedInForm (spelled bytes)
   judged_form =
       cond_both (is_name bytes) _ _ IsJudgedInForm
-      (λ is. word_or_name_form (word_of bytes) refl is)
+      (λ is. word_or_name_form (word_spelled bytes) refl is)
       (λ _. cond_both (is_decimal bytes) _ _ IsJudgedInForm
       (λ _. number_form _ _)
       (λ _. cond_both (is_hexadecimal bytes) _ _ IsJudgedInForm
       (λ _. number_form _ _)
-      (λ _. sign_form (sign_of bytes))))
+      (λ _. sign_form (sign_spelled bytes))))
 
 comment_form : (at : ℕ) (o : Option ℕ) → FrontInForm (block_comment at o)
 unfolding block_comment
@@ -83,16 +86,16 @@ front_form at text =
     (λ _. judged_form at (take (longest is_token text) text) (drop (longest is_token text) text))))
 
 -- one after another
-put_form : (at : ℕ) (lexeme : Option Lexeme) (rest : Result (List Placed) TokenError) → is_front_in_form lexeme ≡ true → AllInForm rest → AllInForm (put_before at lexeme rest)
+put_form : (at : ℕ) (kind : Option Kind) (rest : Result (List Token) TokenError) → is_front_in_form kind ≡ true → AllInForm rest → AllInForm (put_before at kind rest)
 unfolding put_before
-put_form at lexeme (Err error) form all = tt
-put_form at None (Ok placed) form all = all
-put_form at (Some lexeme) (Ok placed) form all = and_from _ _ form all
+put_form at kind (Err error) form all = tt
+put_form at None (Ok tokens) form all = all
+put_form at (Some kind) (Ok tokens) form all = and_from _ _ form all
 
-then_form : (at : ℕ) (rest : ℕ → Result (List Placed) TokenError) (front : Result Front TokenError) → ((left : ℕ) → AllInForm (rest left)) → FrontInForm front → AllInForm (front_then at rest front)
+then_form : (at : ℕ) (rest : ℕ → Result (List Token) TokenError) (front : Result Front TokenError) → ((left : ℕ) → AllInForm (rest left)) → FrontInForm front → AllInForm (front_then at rest front)
 unfolding front_then
 then_form at rest (Err error) all form = tt
-then_form at rest (Ok front) all form = put_form at front.lexeme (rest (front.len - 1)) form (all (front.len - 1))
+then_form at rest (Ok front) all form = put_form at front.kind (rest (front.len - 1)) form (all (front.len - 1))
 
 from_form : (at left : ℕ) (text : List ℕ) → AllInForm (tokens_from at left text)
 unfolding tokens_from
@@ -102,4 +105,4 @@ from_form at zero (b ∷ bs) = then_form at (λ left. tokens_from (at + 1) left 
 
 pub are_in_form : TokensAreInForm
 unfolding tokens_of
-are_in_form text placed read = subst AllInForm read (from_form 0 0 text)
+are_in_form text tokens read = subst AllInForm read (from_form 0 0 text)

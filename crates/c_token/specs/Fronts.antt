@@ -1,21 +1,11 @@
--- What the code's reading of a front means, and the parts of a number that it reads.
-use Rattle.std.specs.Prelude.{◌≡◌, ℕ, ◌+◌, ◌-◌, Bool, ◌&&◌, List, take, drop, Result, Ok, Err, Some, option_map, nat_lt, if◌then◌else◌}
+-- Device: the parts of a number that the code reads.
+use Rattle.std.specs.Prelude.{ℕ, ◌+◌, ◌-◌, Bool, ◌&&◌, List, take, drop, Result, Some, nat_lt, if◌then◌else◌}
 use Rattle.std.specs.Char.{is_ascii_hexdigit}
 use Rattle.std.specs.Str.Parse.{digits_value}
-use Rattle.c_token.specs.declared.front.Front.{Front as Found}
+use Rattle.c_token.specs.declared.front.Front.{Front}
 use Rattle.c_token.specs.declared.kinds.TokenError.{TokenError}
-use Rattle.c_token.specs.Lexemes.{lexeme_of}
-use Rattle.c_token.specs.Spelling.{is_suffix_byte, has_hexadecimal_prefix, number_with}
-use Rattle.c_token.specs.Tokens.{Front, begins_with, judged}
-
--- what was found, as the definition of tokens has it
-abbrev pub front_of : Found → Front
-front_of found = record { lexeme = option_map lexeme_of found.kind; len = found.len }
-
--- what was found is this outcome
-abbrev pub Finds : Result Found TokenError → Result Front TokenError → Type 0
-Finds (Ok found) outcome = outcome ≡ Ok (front_of found)
-Finds (Err error) outcome = outcome ≡ Err error
+use Rattle.c_token.specs.TokenSpelling.{is_suffix_byte, has_hexadecimal_prefix, number_with}
+use Rattle.c_token.specs.TextTokens.{begins_with, judged}
 
 -- `0x` or `0X` and a hexadecimal digit
 abbrev pub begins_hexadecimal : List ℕ → Bool

@@ -1,7 +1,6 @@
-pub mod Words
-pub mod Signs
-pub mod Lexemes
-pub mod Spelling
-pub mod Tokens
+pub mod WordSpelling
+pub mod SignSpelling
+pub mod TokenSpelling
+pub mod TextTokens
 pub mod Fronts
-pub mod Plain
+pub mod PlainText

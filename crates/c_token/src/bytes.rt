@@ -2,8 +2,8 @@
 ghost use Rattle.std.specs.Prelude.{◌≡◌, ◌==◌, ◌≤◌, length};
 ghost use Rattle.std.specs.List.{prefix_len, position_or_len};
 ghost use Rattle.std.specs.Char.{is_ascii_digit, is_ascii_hexdigit};
-ghost use Rattle.c_token.specs.Spelling.{is_name_start, is_name_byte, is_suffix_byte};
-ghost use Rattle.c_token.specs.Tokens.{is_blank, begins_with, has_leading_zero};
+ghost use Rattle.c_token.specs.TokenSpelling.{is_name_start, is_name_byte, is_suffix_byte};
+ghost use Rattle.c_token.specs.TextTokens.{is_blank, begins_with, has_leading_zero};
 ghost use Rattle.c_token.specs.Fronts.{suffix_len, begins_hexadecimal};
 
 pub fn is_blank(byte: u8) -> bool

@@ -1,15 +1,16 @@
 //! What a text begins with: a blank, a comment, or the longest token.
 ghost use Rattle.std.specs.Prelude.{◌≡◌, ◌≤◌, length, IfSome};
-ghost use Rattle.c_token.specs.Tokens.{close_of};
+ghost use Rattle.c_token.specs.TextTokens.{close_of};
 
 use crate::bytes::{
     begins_hexadecimal, begins_with_name_byte, decimal_len, has_leading_zero, hexadecimal_len,
     is_blank, is_name_start, line_len, name_len, suffix_len,
 };
 use crate::kinds::{Kind, TokenError};
-use crate::signs::sign_of;
-use crate::words::word_of;
+use crate::signs::sign_spelled;
+use crate::words::word_spelled;
 use aegis_num::Name;
+use aegis_num::limits::MAX_NAME_BYTES;
 use std::str;
 
 /// What a text begins with: a token, or a blank or a comment, which is none; and how many bytes it takes.
@@ -23,14 +24,14 @@ impl Front {
     ghost use Rattle.std.specs.Prelude.{◌≡◌, ◌-◌, ◌<◌, ◌≤◌, true, false, length, take, drop, IfOk};
     ghost use Rattle.std.specs.Char.{is_ascii_digit};
     ghost use Rattle.std.specs.Str.Parse.{IsNumeral};
-    ghost use Rattle.c_token.specs.Spelling.{is_name_start, is_token};
-    ghost use Rattle.c_token.specs.Tokens.{begins_with, close_of, longest, block_comment, token_of_len, front_at};
-    ghost use Rattle.c_token.specs.Fronts.{Finds, number_at, number_end};
+    ghost use Rattle.c_token.specs.TokenSpelling.{is_name_start, is_token};
+    ghost use Rattle.c_token.specs.TextTokens.{begins_with, close_of, longest, block_comment, token_of_len, front_at};
+    ghost use Rattle.c_token.specs.Fronts.{number_at, number_end};
 
     /// What the text from the place `at` on begins with.
     pub fn at(text: &[u8], at: u32) -> Result<Front, TokenError>
         requires { 0 < length text.now }
-        ensures front { Finds result (front_at at text.now) }
+        ensures front { result ≡ front_at at text.now }
         ensures within { IfOk result (λ front. (0 < front.len) × (front.len ≤ length text.now)) }
     {
         if is_blank(text[0]) {
@@ -57,7 +58,7 @@ impl Front {
     /// A comment from `/*` on.
     fn block_comment(text: &[u8], at: u32) -> Result<Front, TokenError>
         requires { 2 ≤ length text.now }
-        ensures front { Finds result (block_comment at (close_of (drop 2 text.now))) }
+        ensures front { result ≡ block_comment at (close_of (drop 2 text.now)) }
         ensures within { IfOk result (λ front. (0 < front.len) × (front.len ≤ length text.now)) }
     {
         match close_of(&text[2..]) {
@@ -72,30 +73,30 @@ impl Front {
     /// A word or a name.
     fn name(text: &[u8], at: u32) -> Result<Front, TokenError>
         requires { begins_with is_name_start text.now ≡ true }
-        ensures front { Finds result (token_of_len at text.now (longest is_token text.now)) }
+        ensures front { result ≡ token_of_len at text.now (longest is_token text.now) }
         ensures within { IfOk result (λ front. (0 < front.len) × (front.len ≤ length text.now)) }
     {
         let len = name_len(text);
         let bytes = &text[..len];
-        if let Some(word) = word_of(bytes) {
+        if let Some(word) = word_spelled(bytes) {
             return Ok(Front {
                 kind: Some(Kind::Word(word)),
                 len,
             });
         }
-        match Name::from(str::from_utf8(bytes).unwrap()) {
-            Ok(name) => Ok(Front {
-                kind: Some(Kind::Name(name)),
-                len,
-            }),
-            Err(_) => Err(TokenError::LongName { at }),
+        if len > MAX_NAME_BYTES {
+            return Err(TokenError::LongName { at });
         }
+        Ok(Front {
+            kind: Some(Kind::Name(Name::new(bytes))),
+            len,
+        })
     }
 
     /// A number.
     fn number(text: &[u8], at: u32) -> Result<Front, TokenError>
         requires { begins_with is_ascii_digit text.now ≡ true }
-        ensures front { Finds result (token_of_len at text.now (longest is_token text.now)) }
+        ensures front { result ≡ token_of_len at text.now (longest is_token text.now) }
         ensures within { IfOk result (λ front. (0 < front.len) × (front.len ≤ length text.now)) }
     {
         if begins_hexadecimal(text) {
@@ -120,7 +121,7 @@ impl Front {
         requires in_order { start ≤ end }
         requires within { end ≤ length text.now }
         requires numeral { IsNumeral base (take (end - start) (drop start text.now)) }
-        ensures front { Finds result (number_at at text.now base start end) }
+        ensures front { result ≡ number_at at text.now base start end }
         ensures within { IfOk result (λ front. (0 < front.len) × (front.len ≤ length text.now)) }
     {
         let len = end + suffix_len(&text[end..]);
@@ -145,18 +146,18 @@ impl Front {
         requires some { 0 < length text.now }
         requires no_name { begins_with is_name_start text.now ≡ false }
         requires no_number { begins_with is_ascii_digit text.now ≡ false }
-        ensures front { Finds result (token_of_len at text.now (longest is_token text.now)) }
+        ensures front { result ≡ token_of_len at text.now (longest is_token text.now) }
         ensures within { IfOk result (λ front. (0 < front.len) × (front.len ≤ length text.now)) }
     {
         if text.len() > 1 {
-            if let Some(sign) = sign_of(&text[..2]) {
+            if let Some(sign) = sign_spelled(&text[..2]) {
                 return Ok(Front {
                     kind: Some(Kind::Sign(sign)),
                     len: 2,
                 });
             }
         }
-        match sign_of(&text[..1]) {
+        match sign_spelled(&text[..1]) {
             Some(sign) => Ok(Front {
                 kind: Some(Kind::Sign(sign)),
                 len: 1,

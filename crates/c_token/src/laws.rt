@@ -1,5 +1,5 @@
 //! Laws of tokens.
-ghost use Rattle.c_token.specs.Plain.{PlainTextReadsBack, TokensAreInForm};
+ghost use Rattle.c_token.specs.PlainText.{PlainTextReadsBack, TokensAreInForm};
 
 /// Tokens in form, spelled plainly with one space between two, are the tokens of that text.
 pub fn plain_text_reads_back()

@@ -1,7 +1,6 @@
 //! The tokens of a text.
 ghost use Rattle.std.specs.Prelude.{◌≡◌, ◌≢◌, ◌≤◌, length, vec_len, Ok, Err, IfOk, IfErr};
-ghost use Rattle.c_token.specs.Lexemes.{placed_all};
-ghost use Rattle.c_token.specs.Tokens.{tokens_of};
+ghost use Rattle.c_token.specs.TextTokens.{tokens_of};
 
 use crate::front::Front;
 use crate::kinds::{Token, TokenError};
@@ -13,7 +12,7 @@ use std::alloc::Global;
 /// The text has at most `MAX_SOURCE_BYTES` bytes.
 pub fn tokens(alloc: Global, text: &[u8]) -> Result<Vec<Token>, TokenError>
     requires { length text.now ≤ MAX_SOURCE_BYTES }
-    ensures tokens { IfOk result (λ tokens. tokens_of text.now ≡ Ok (placed_all tokens.items)) }
+    ensures tokens { IfOk result (λ tokens. tokens_of text.now ≡ Ok tokens.items) }
     ensures fault { IfErr result
         (λ error. error ≢ TokenError.OutOfMemory → tokens_of text.now ≡ Err error) }
     // No token is empty.

@@ -1,6 +1,6 @@
 //! The signs of the source language (ISO/IEC 9899, section 6.4.6).
 ghost use Rattle.std.specs.Prelude.{◌≡◌, Some};
-ghost use Rattle.c_token.specs.Signs.{sign_spelling, sign_of};
+ghost use Rattle.c_token.specs.SignSpelling.{sign_spelling, sign_spelled};
 
 /// A sign.
 #[derive(Clone, Copy, Debug, PartialEq, Eq)]
@@ -101,7 +101,7 @@ impl Sign {
     /// The text that spells the sign, and no other sign.
     pub fn spelling(self) -> &'static str
         ensures spelling { result.now ≡ sign_spelling self }
-        ensures own { sign_of result.now ≡ Some self }
+        ensures own { sign_spelled result.now ≡ Some self }
     {
         match self {
             Sign::LeftParenthesis => "(",
@@ -138,8 +138,8 @@ impl Sign {
 }
 
 /// The sign that these bytes spell.
-pub fn sign_of(bytes: &[u8]) -> Option<Sign>
-    ensures { result ≡ sign_of bytes.now }
+pub fn sign_spelled(bytes: &[u8]) -> Option<Sign>
+    ensures { result ≡ sign_spelled bytes.now }
 {
     SIGNS
         .iter()

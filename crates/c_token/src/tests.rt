@@ -142,7 +142,7 @@ fn reads_a_text(rt: HostRuntime) -> Result<(), Fail> {
     let found = tokens(rt.alloc(), text.as_bytes())?;
     let kinds = [
         (Kind::Word(Word::Int), 5),
-        (Kind::Name(Name::from("a").ok().expect(&rt, "short")), 9),
+        (Kind::Name(Name::new(b"a")), 9),
         (Kind::Sign(Sign::ShiftRight), 10),
         (Kind::Sign(Sign::Assign), 12),
         (
@@ -156,7 +156,7 @@ fn reads_a_text(rt: HostRuntime) -> Result<(), Fail> {
         (Kind::Sign(Sign::Assign), 21),
         (Kind::Sign(Sign::GreaterThan), 22),
         (Kind::Sign(Sign::Assign), 24),
-        (Kind::Name(Name::from("_b").ok().expect(&rt, "short")), 25),
+        (Kind::Name(Name::new(b"_b")), 25),
     ];
     assert_eq!(rt; found.len(), kinds.len());
     for (token, (kind, at)) in found.iter().zip(kinds) {

@@ -1,6 +1,6 @@
 //! The words of the source language (ISO/IEC 9899, section 6.4.1, and the words of this profile).
 ghost use Rattle.std.specs.Prelude.{◌≡◌, Some};
-ghost use Rattle.c_token.specs.Words.{word_spelling, word_of};
+ghost use Rattle.c_token.specs.WordSpelling.{word_spelling, word_spelled};
 
 /// A word that no name may be.
 #[derive(Clone, Copy, Debug, PartialEq, Eq)]
@@ -71,7 +71,7 @@ impl Word {
     /// The text that spells the word, and no other word.
     pub fn spelling(self) -> &'static str
         ensures spelling { result.now ≡ word_spelling self }
-        ensures own { word_of result.now ≡ Some self }
+        ensures own { word_spelled result.now ≡ Some self }
     {
         match self {
             Word::Int => "int",
@@ -98,8 +98,8 @@ impl Word {
 }
 
 /// The word that these bytes spell.
-pub fn word_of(bytes: &[u8]) -> Option<Word>
-    ensures { result ≡ word_of bytes.now }
+pub fn word_spelled(bytes: &[u8]) -> Option<Word>
+    ensures { result ≡ word_spelled bytes.now }
 {
     WORDS
         .iter()

@@ -5,10 +5,10 @@ use Rattle.c_token.specs.declared.kinds.Kind.{Kind}
 use Rattle.c_token.specs.declared.signs.Sign.TheVariants.{LeftParenthesis, RightParenthesis, LeftBrace, RightBrace, Semicolon, Assign}
 use Rattle.c_grammar.specs.declared.item.Item.{Item}
 use Rattle.c_grammar.specs.declared.item.Program.{Program}
-use Rattle.c_grammar.specs.Tokens.{numbered, Bounded, bounded_all, name, sign}
-use Rattle.c_grammar.specs.Programs.{IsItem, AreItems}
-use Rattle.c_grammar.specs.Programs.IsItem.{object, constant, untrusted, function}
-use Rattle.c_grammar.specs.Programs.AreItems.{nothing, further}
+use Rattle.c_grammar.specs.BoundedTokens.{numbered, Bounded, bounded_all, name, sign}
+use Rattle.c_grammar.specs.ProgramGrammar.{IsItem, AreItems}
+use Rattle.c_grammar.specs.ProgramGrammar.IsItem.{object, constant, untrusted, function}
+use Rattle.c_grammar.specs.ProgramGrammar.AreItems.{nothing, further}
 use Rattle.c_types.specs.Sites.{token_of}
 use Rattle.c_types.specs.Walks.{HasRoom}
 use Rattle.c_types.specs.Checked.{IsRead}

@@ -1,10 +1,7 @@
 use Rattle.std.proofs.Common.{◌≤◌, length, vec_len, drop, sym, ap, ◌∙◌, arith}
 use Rattle.std.proofs.lemmas.Result.{err_from_is_err_and}
-use Rattle.std.proofs.lemmas.List.{take_rest, map_push, length-drop}
-use Rattle.std.specs.Prelude.{option_map}
-use Rattle.c_token.specs.Lexemes.{placed_of, placed_all, lexeme_of}
-use Rattle.c_token.specs.Tokens.{tokens_of, front_at}
-use Rattle.c_token.specs.Fronts.{front_of}
+use Rattle.std.proofs.lemmas.List.{take_rest, length-drop}
+use Rattle.c_token.specs.TextTokens.{tokens_of, front_at}
 use Rattle.c_token.proofs.Scan.{told_after_gap, told_after_token, told_fault, told_end}
 use Rattle.c_token.proofs.scanner.tokens.Goals as goal
 use Rattle.c_token.proofs.scanner.tokens.Goals.{in-Some+in_ok-push, in_default}
@@ -14,13 +11,13 @@ unfolding tokens_of
 returns-in_err-kind-clause-fault c =
     let text = c.args.text.now in
     let p = err_from_is_err_and c.from_residual.result c.from_residual.ensures.1 in
-    let found = ap (front_at c.each.at) (sym (take_rest text c.each.at)) ∙ c.in_err-kind.ensures.front in
-    rw (p.1, p.2) (λ _. told_fault text c.each.at (placed_all c.each.tokens.items) c.each.invariant.told c.in_err-kind.field-0.0 c.each-test.true found)
+    let found = ap (front_at c.each.at) (sym (take_rest text c.each.at)) ∙ sym c.in_err-kind.ensures.front in
+    rw (p.1, p.2) (λ _. told_fault text c.each.at c.each.tokens.items c.each.invariant.told c.in_err-kind.field-0.0 c.each-test.true found)
 
 pub each-preserved : goal.each-preserved
 each-preserved c =
     let text = c.args.text.now in
-    let found = ap (front_at c.each.at) (sym (take_rest text c.each.at)) ∙ c.in_ok-kind.ensures.front in
+    let found = ap (front_at c.each.at) (sym (take_rest text c.each.at)) ∙ sym c.in_ok-kind.ensures.front in
     let within : c.in_ok-kind.field-0.len ≤ length (drop c.each.at text) = omega (arith, ap length (take_rest text c.each.at), c.in_ok-kind.ensures.within.1) in
     record {
       within = omega (arith, length-drop c.each.at text);
@@ -30,18 +27,17 @@ each-preserved c =
       ];
       told = elim c.match-kind.branch [
         | in-Some+in_ok-push w ↦
-            let one_more = ap (λ v. placed_all v.items) w.tokens-is ∙ ap placed_all w.in_ok-push.ensures.items ∙ map_push placed_of c.each.tokens.items _ in
-            rw one_more
-            (told_after_token text c.each.at (placed_all c.each.tokens.items) c.each.invariant.told (front_of c.in_ok-kind.field-0) (lexeme_of w.in-Some.kind)
-            c.in_ok-kind.ensures.within.0 within found (ap (option_map lexeme_of) w.in-Some.is))
+            rw (ap (λ v. v.items) w.tokens-is ∙ w.in_ok-push.ensures.items)
+            (told_after_token text c.each.at c.each.tokens.items c.each.invariant.told c.in_ok-kind.field-0 w.in-Some.kind
+            c.in_ok-kind.ensures.within.0 within found w.in-Some.is)
         | in_default w ↦
-            rw (ap (λ v. placed_all v.items) w.tokens-is)
-            (told_after_gap text c.each.at (placed_all c.each.tokens.items) c.each.invariant.told (front_of c.in_ok-kind.field-0)
-            c.in_ok-kind.ensures.within.0 within found (ap (option_map lexeme_of) w.in_default.is))
+            rw (ap (λ v. v.items) w.tokens-is)
+            (told_after_gap text c.each.at c.each.tokens.items c.each.invariant.told c.in_ok-kind.field-0
+            c.in_ok-kind.ensures.within.0 within found w.in_default.is)
       ];
     }
 
 pub returns-clause-tokens : goal.returns-clause-tokens
 unfolding tokens_of
 returns-clause-tokens c =
-    told_end c.args.text.now c.each.at (placed_all c.each.tokens.items) c.each.invariant.told c.each-test.false
+    told_end c.args.text.now c.each.at c.each.tokens.items c.each.invariant.told c.each-test.false

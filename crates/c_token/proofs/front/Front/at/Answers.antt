@@ -1,7 +1,6 @@
 use Rattle.std.proofs.Common.{◌≡◌, sym, ap, subst, ◌∙◌, false, get_or, Ok, refl}
-use Rattle.c_token.specs.Spelling.{is_token}
-use Rattle.c_token.specs.Tokens.{is_blank, begins_with, longest, gap, token_of_len, front_at}
-use Rattle.c_token.specs.Fronts.{Finds}
+use Rattle.c_token.specs.TokenSpelling.{is_token}
+use Rattle.c_token.specs.TextTokens.{is_blank, begins_with, longest, gap, token_of_len, front_at}
 use Rattle.c_token.proofs.Cases.{begins_with-first, front_is_blank, front_is_block, front_is_line, front_is_token}
 use Rattle.c_token.proofs.front.Front.at.Goals as goal
 use Rattle.c_token.proofs.front.Front.at.Goals.{After-is_blank, After-is_name_start}
@@ -17,30 +16,30 @@ token c no_blank =
 
 pub returns-then-is_blank-clause-front : goal.returns-then-is_blank-clause-front
 returns-then-is_blank-clause-front c =
-    front_is_blank c.args.at c.args.text.now (blank (goal.at.returns-then-is_blank-clause-front c).After-is_blank ∙ c.if-is_blank.true)
+    sym (front_is_blank c.args.at c.args.text.now (blank (goal.at.returns-then-is_blank-clause-front c).After-is_blank ∙ c.if-is_blank.true))
 
 pub returns-then-starts_with-clause-front : goal.returns-then-starts_with-clause-front
 returns-then-starts_with-clause-front c =
     let no_blank = blank (goal.at.returns-then-starts_with-clause-front c).After-is_blank ∙ c.if-is_blank.false in
-    subst (Finds c.block_comment.result) (sym (front_is_block c.args.at c.args.text.now no_blank (sym c.starts_with.ensures.value ∙ c.if-starts_with.true))) c.block_comment.ensures.front
+    c.block_comment.ensures.front ∙ sym (front_is_block c.args.at c.args.text.now no_blank (sym c.starts_with.ensures.value ∙ c.if-starts_with.true))
 
 pub returns-then-starts_with-2-clause-front : goal.returns-then-starts_with-2-clause-front
 returns-then-starts_with-2-clause-front c =
     let no_blank = blank (goal.at.returns-then-starts_with-2-clause-front c).After-is_blank ∙ c.if-is_blank.false in
-    front_is_line c.args.at c.args.text.now no_blank (sym c.starts_with.ensures.value ∙ c.if-starts_with.false) (sym c.starts_with-2.ensures.value ∙ c.if-starts_with-2.true)
-    ∙ ap (λ n. Ok (gap n)) (sym c.line_len.ensures.len)
+    ap (λ n. Ok (gap n)) c.line_len.ensures.len
+    ∙ sym (front_is_line c.args.at c.args.text.now no_blank (sym c.starts_with.ensures.value ∙ c.if-starts_with.false) (sym c.starts_with-2.ensures.value ∙ c.if-starts_with-2.true))
 
 pub returns-then-is_name_start-clause-front : goal.returns-then-is_name_start-clause-front
 returns-then-is_name_start-clause-front c =
     let path = goal.at.returns-then-is_name_start-clause-front c in
-    subst (Finds c.name.result) (sym (token path.After-is_name_start (blank path.After-is_blank ∙ c.if-is_blank.false))) c.name.ensures.front
+    c.name.ensures.front ∙ sym (token path.After-is_name_start (blank path.After-is_blank ∙ c.if-is_blank.false))
 
 pub returns-then-is_ascii_digit-clause-front : goal.returns-then-is_ascii_digit-clause-front
 returns-then-is_ascii_digit-clause-front c =
     let path = goal.at.returns-then-is_ascii_digit-clause-front c in
-    subst (Finds c.number.result) (sym (token path.After-is_name_start (blank path.After-is_blank ∙ c.if-is_blank.false))) c.number.ensures.front
+    c.number.ensures.front ∙ sym (token path.After-is_name_start (blank path.After-is_blank ∙ c.if-is_blank.false))
 
 pub returns-clause-front : goal.returns-clause-front
 returns-clause-front c =
     let path = goal.at.returns-clause-front c in
-    subst (Finds c.sign.result) (sym (token path.After-is_name_start (blank path.After-is_blank ∙ c.if-is_blank.false))) c.sign.ensures.front
+    c.sign.ensures.front ∙ sym (token path.After-is_name_start (blank path.After-is_blank ∙ c.if-is_blank.false))

@@ -4,8 +4,8 @@ use Rattle.std.specs.List.{prefix_len}
 use Rattle.std.specs.Char.{is_ascii_digit, is_ascii_hexdigit}
 use Rattle.std.proofs.lemmas.List.{take_rest}
 use Rattle.std.proofs.lemmas.Bool.{and_parts}
-use Rattle.c_token.specs.Tokens.{begins_with}
-use Rattle.c_token.specs.Fronts.{Finds, number_at}
+use Rattle.c_token.specs.TextTokens.{begins_with}
+use Rattle.c_token.specs.Fronts.{number_at}
 use Rattle.c_token.proofs.Numbers.{number-decimal, number-hexadecimal}
 use Rattle.c_token.proofs.NumberReads.{decimal_is_numeral, hexadecimal_is_numeral}
 use Rattle.c_token.proofs.front.Front.number.Goals as goal
@@ -36,7 +36,7 @@ returns-then-begins_hexadecimal-clause-front c =
     let text = c.args.text.now in
     let begins = sym c.begins_hexadecimal.ensures ∙ c.if-begins_hexadecimal.true in
     let at_end = ap (λ d. number_at c.args.at text 16 2 (2 + d)) (digits (goal.at.returns-then-begins_hexadecimal-clause-front c).After-hexadecimal_len-end) in
-    subst (Finds c.number_in.result) (at_end ∙ sym (number-hexadecimal c.args.at text begins)) c.number_in.ensures.front
+    c.number_in.ensures.front ∙ at_end ∙ sym (number-hexadecimal c.args.at text begins)
 
 pub returns-else-begins_hexadecimal-clause-front :
     goal.returns-else-begins_hexadecimal-clause-front
@@ -44,4 +44,4 @@ returns-else-begins_hexadecimal-clause-front c =
     let text = c.args.text.now in
     let none = sym c.begins_hexadecimal.ensures ∙ c.if-begins_hexadecimal.false in
     let at_end = ap (number_at c.args.at text 10 0) c.decimal_len-end.ensures.len in
-    subst (Finds c.number_in-else-begins_hexadecimal.result) (at_end ∙ sym (number-decimal c.args.at text c.requires none)) c.number_in-else-begins_hexadecimal.ensures.front
+    c.number_in-else-begins_hexadecimal.ensures.front ∙ at_end ∙ sym (number-decimal c.args.at text c.requires none)

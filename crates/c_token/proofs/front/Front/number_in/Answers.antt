@@ -2,10 +2,11 @@ use Rattle.std.proofs.Common.{◌≡◌, ℕ, ◌+◌, ◌-◌, ◌||◌, Bool, 
 use Rattle.std.proofs.lemmas.List.{take_rest}
 use Rattle.std.proofs.lemmas.Bool.{or_left, or_right, or_from, lt-ltb, le-ltb}
 use Rattle.std.specs.Str.Parse.{digits_value}
-use Rattle.c_token.specs.Spelling.{is_name_byte}
+use Rattle.c_token.specs.TokenSpelling.{is_name_byte}
 use Rattle.c_token.specs.declared.kinds.TokenError.{TokenError}
-use Rattle.c_token.specs.Lexemes.{number}
-use Rattle.c_token.specs.Tokens.{begins_with, has_leading_zero, Front, token}
+use Rattle.c_token.specs.declared.kinds.Kind.TheVariants as kinds
+use Rattle.c_token.specs.declared.front.Front.{Front}
+use Rattle.c_token.specs.TextTokens.{begins_with, has_leading_zero, token}
 use Rattle.c_token.specs.Fronts.{suffix_len, number_end}
 use Rattle.c_token.proofs.NumberReads.{digits_are_text, parsed_fits, unparsed_is_big, number_is_bad, number_is_big, number_is_fine}
 use Rattle.c_token.proofs.Numbers.{number_end-le}
@@ -21,14 +22,14 @@ pub returns-then-has_leading_zero-clause-front : goal.returns-then-has_leading_z
 returns-then-has_leading_zero-clause-front c =
     let text = c.args.text.now in
     let end = ends (goal.at.returns-then-has_leading_zero-clause-front c).After-suffix_len in
-    number_is_bad c.args.at text c.args.base c.args.start c.args.end
+    sym (number_is_bad c.args.at text c.args.base c.args.start c.args.end
     (elim c.then-has_leading_zero.branch [
       | then-has_leading_zero-via-then-has_leading_zero w ↦ or_left _ _ (ap (λ n. has_leading_zero (take n text)) (sym end) ∙ sym c.has_leading_zero.ensures ∙ w.if-has_leading_zero.true)
       | then-has_leading_zero-via-else-has_leading_zero+then-begins_with_name_byte w ↦ or_right _ _
           (ap (λ n. begins_with is_name_byte (drop n text)) (sym end)
           ∙ ap (begins_with is_name_byte) (sym (take_rest text (c.args.end + c.suffix_len.result)))
           ∙ sym w.begins_with_name_byte.ensures ∙ w.if-begins_with_name_byte.true)
-    ])
+    ]))
 
 pub unwrap-digits-requires : goal.unwrap-digits-requires
 unwrap-digits-requires c =
@@ -65,17 +66,17 @@ returns-after-end-len-clause-front c =
       | then-end-len w ↦ either_true _ _ _ (lt-ltb _ _ w.if-end-len.true) w.result-is
       | else-end-len w ↦ either_false _ _ _ (le-ltb _ _ w.if-end-len.false) w.result-is
     ] in
-    let f : ℕ → Bool → ℕ → Result Front TokenError = λ value unsigned len. Ok (token (number value unsigned) len) in
+    let f : ℕ → Bool → ℕ → Result Front TokenError = λ value unsigned len. Ok (token (kinds.Number value unsigned) len) in
     let end = ends path.After-suffix_len in
-    number_is_fine c.args.at text c.args.base c.args.start c.args.end (is_fine path.After-from_utf8 end) parsed.0 (number_end-le text c.args.end c.requires.within)
+    sym (number_is_fine c.args.at text c.args.base c.args.start c.args.end (is_fine path.After-from_utf8 end) parsed.0 (number_end-le text c.args.end c.requires.within)
     ∙ ap (λ n. f (digits_value c.args.base digits) (ltb c.args.end n || ltb 2147483647 (digits_value c.args.base digits)) n) (sym end)
     ∙ ap (λ value. f value (ltb c.args.end len || ltb 2147483647 value) len) (sym parsed.1)
-    ∙ ap (λ unsigned. f c.in-Ok.value unsigned len) (sym flag)
+    ∙ ap (λ unsigned. f c.in-Ok.value unsigned len) (sym flag))
 
 pub returns-in-Err-clause-front : goal.returns-in-Err-clause-front
 returns-in-Err-clause-front c =
     let path = goal.at.returns-in-Err-clause-front c in
     let digits = take (c.args.end - c.args.start) (drop c.args.start c.args.text.now) in
     let same = text_is_same c.from_utf8.result digits c.unwrap-digits.result c.from_utf8.ensures.cases c.unwrap-digits.ensures in
-    number_is_big c.args.at c.args.text.now c.args.base c.args.start c.args.end (is_fine path.After-from_utf8 (ends path.After-suffix_len))
-    (unparsed_is_big c.args.base digits c.unwrap-digits.result.now c.requires.base_below c.requires.numeral same c.in-Err.ensures.value)
+    sym (number_is_big c.args.at c.args.text.now c.args.base c.args.start c.args.end (is_fine path.After-from_utf8 (ends path.After-suffix_len))
+    (unparsed_is_big c.args.base digits c.unwrap-digits.result.now c.requires.base_below c.requires.numeral same c.in-Err.ensures.value))

@@ -1,12 +1,16 @@
--- The tokens of a text: blanks and comments aside, the longest token each time (ISO/IEC 9899, section 6.4, paragraph 4).
--- A text is its bytes, and places are counted from 0.
+-- Promise: the tokens of a text, blanks and comments aside, the longest token each time (ISO/IEC 9899, section 6.4, paragraph 4).
+-- A text is its bytes, and places are counted from 0. A front is what a text begins with: its token, if it is one, and its bytes.
 use Rattle.std.specs.Prelude.{ℕ, zero, suc, ◌+◌, ◌-◌, Bool, false, ◌||◌, ◌&&◌, List, [], ◌∷◌, length, take, drop, Option, Some, None, option_map, Result, Ok, Err, nat_eq, nat_lt, ◌==◌, if◌then◌else◌, codes}
 use Rattle.std.specs.List.{starts_with, position_or_len}
 use Rattle.std.specs.Char.{is_ascii_digit}
 use Rattle.c_token.specs.declared.kinds.TokenError.{TokenError}
 use Rattle.c_token.specs.declared.kinds.TokenError.TheVariants.{BadByte, OpenComment, LongName, BadNumber, BigNumber}
-use Rattle.c_token.specs.Lexemes.{Lexeme, name, number, word, sign, Placed}
-use Rattle.c_token.specs.Spelling.{is_name_byte, spelled, is_token}
+use Rattle.c_token.specs.declared.kinds.Kind.{Kind}
+use Rattle.c_token.specs.declared.kinds.Kind.TheVariants as kinds
+use Rattle.c_token.specs.declared.kinds.Token.{Token}
+use Rattle.c_token.specs.declared.front.Front.{Front}
+use Rattle.aegis_num.specs.declared.limits.TheConstants.{MAX_NAME_BYTES}
+use Rattle.c_token.specs.TokenSpelling.{is_name_byte, spelled, is_token}
 
 -- space, tab, carriage return and line feed
 abbrev pub is_blank : ℕ → Bool
@@ -22,7 +26,7 @@ abbrev pub longest_upto : (List ℕ → Bool) → List ℕ → ℕ → ℕ
 longest_upto passes text zero = 0
 longest_upto passes text (suc n) = if passes (take (suc n) text) then suc n else longest_upto passes text n
 
--- the same, up to the whole text
+-- the greatest up to the whole text
 abbrev pub longest : (List ℕ → Bool) → List ℕ → ℕ
 longest passes text = longest_upto passes text (length text)
 
@@ -36,34 +40,29 @@ abbrev pub has_leading_zero : List ℕ → Bool
 has_leading_zero [] = false
 has_leading_zero (b ∷ bs) = (b == 48) && begins_with is_ascii_digit bs
 
--- What a text begins with: how many bytes it takes, and its token, none for a blank or a comment.
-pub record Front : Type 0 where
-  pub lexeme : Option Lexeme
-  pub len : ℕ
-
 -- a blank or a comment
 abbrev pub gap : ℕ → Front
-gap n = record { lexeme = None; len = n }
+gap n = record { kind = None; len = n }
 
 -- a token
-abbrev pub token : Lexeme → ℕ → Front
-token lexeme n = record { lexeme = Some lexeme; len = n }
+abbrev pub token : Kind → ℕ → Front
+token kind n = record { kind = Some kind; len = n }
 
--- A comment from `/*` on ends at the first `*/` behind these two bytes (6.4.9).
+-- A comment from `/*` on ends at the first `*/` after these two bytes (6.4.9).
 unfoldable pub block_comment : ℕ → Option ℕ → Result Front TokenError
 block_comment at None = Err (OpenComment at)
 block_comment at (Some n) = Ok (gap (2 + n))
 
--- A token at this place, spelled by these bytes, with the rest of the text behind it, or its fault.
-unfoldable pub judged : ℕ → List ℕ → List ℕ → Option Lexeme → Result Front TokenError
+-- A token at this place, spelled by these bytes, with the rest of the text after it, or its fault.
+unfoldable pub judged : ℕ → List ℕ → List ℕ → Option Kind → Result Front TokenError
 judged at bytes rest None = Err (BadByte at)
-judged at bytes rest (Some (name text)) =
-    if nat_lt 31 (length text) then Err (LongName at) else Ok (token (name text) (length bytes))
-judged at bytes rest (Some (number value unsigned)) =
+judged at bytes rest (Some (kinds.Name text)) =
+    if nat_lt MAX_NAME_BYTES (length text) then Err (LongName at) else Ok (token (kinds.Name text) (length bytes))
+judged at bytes rest (Some (kinds.Number value unsigned)) =
     if has_leading_zero bytes || begins_with is_name_byte rest then Err (BadNumber at)
-    else (if nat_lt 4294967295 value then Err (BigNumber at) else Ok (token (number value unsigned) (length bytes)))
-judged at bytes rest (Some (word w)) = Ok (token (word w) (length bytes))
-judged at bytes rest (Some (sign s)) = Ok (token (sign s) (length bytes))
+    else (if nat_lt 4294967295 value then Err (BigNumber at) else Ok (token (kinds.Number value unsigned) (length bytes)))
+judged at bytes rest (Some (kinds.Word w)) = Ok (token (kinds.Word w) (length bytes))
+judged at bytes rest (Some (kinds.Sign s)) = Ok (token (kinds.Sign s) (length bytes))
 
 -- the token that this many first bytes spell
 unfoldable pub token_of_len : ℕ → List ℕ → ℕ → Result Front TokenError
@@ -78,22 +77,22 @@ front_at at text =
     else token_of_len at text (longest is_token text)))
 
 -- a token stands before those of the rest, a blank or a comment before none
-unfoldable pub put_before : ℕ → Option Lexeme → Result (List Placed) TokenError → Result (List Placed) TokenError
-put_before at lexeme (Err error) = Err error
-put_before at None (Ok placed) = Ok placed
-put_before at (Some lexeme) (Ok placed) = Ok (record { lexeme = lexeme; at = at } ∷ placed)
+unfoldable pub put_before : ℕ → Option Kind → Result (List Token) TokenError → Result (List Token) TokenError
+put_before at kind (Err error) = Err error
+put_before at None (Ok tokens) = Ok tokens
+put_before at (Some kind) (Ok tokens) = Ok (record { kind = kind; at = at } ∷ tokens)
 
--- the front, and behind its first byte what the rest gives, of which this many bytes are still the front's
-unfoldable pub front_then : ℕ → (ℕ → Result (List Placed) TokenError) → Result Front TokenError → Result (List Placed) TokenError
+-- the front, and after its first byte what the rest gives, of which this many bytes are still the front's
+unfoldable pub front_then : ℕ → (ℕ → Result (List Token) TokenError) → Result Front TokenError → Result (List Token) TokenError
 front_then at rest (Err error) = Err error
-front_then at rest (Ok front) = put_before at front.lexeme (rest (front.len - 1))
+front_then at rest (Ok front) = put_before at front.kind (rest (front.len - 1))
 
 -- The tokens of the text from the place `at` on, of which the first bytes, as many as `left`, belong to what stands before it.
-unfoldable pub tokens_from : ℕ → ℕ → List ℕ → Result (List Placed) TokenError
+unfoldable pub tokens_from : ℕ → ℕ → List ℕ → Result (List Token) TokenError
 tokens_from at left [] = Ok []
 tokens_from at (suc left) (b ∷ bs) = tokens_from (at + 1) left bs
 tokens_from at zero (b ∷ bs) = front_then at (λ left. tokens_from (at + 1) left bs) (front_at at (b ∷ bs))
 
 -- the tokens of a text, or its first fault
-unfoldable pub tokens_of : List ℕ → Result (List Placed) TokenError
+unfoldable pub tokens_of : List ℕ → Result (List Token) TokenError
 tokens_of text = tokens_from 0 0 text

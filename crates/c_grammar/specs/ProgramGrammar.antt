@@ -13,8 +13,8 @@ use Rattle.c_grammar.specs.declared.item.Parameter.{Parameter}
 use Rattle.c_grammar.specs.declared.item.Item.{Item}
 use Rattle.c_grammar.specs.declared.item.Item.TheVariants as i
 use Rattle.c_grammar.specs.declared.item.Program.{Program}
-use Rattle.c_grammar.specs.Tokens.{Spot, Bounded, name, number, word, sign}
-use Rattle.c_grammar.specs.Statements.{IsType, Body}
+use Rattle.c_grammar.specs.BoundedTokens.{Spot, Bounded, name, number, word, sign}
+use Rattle.c_grammar.specs.StatementGrammar.{IsType, Body}
 
 -- The word before an object says how it is kept. None stands for `__verified`.
 pub data IsStorage : List Bounded → Storage → Type 0 where

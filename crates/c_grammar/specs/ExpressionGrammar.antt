@@ -8,8 +8,8 @@ use Rattle.c_token.specs.declared.signs.Sign.TheVariants.{LeftParenthesis, Right
 use Rattle.c_token.specs.declared.words.Word.TheVariants.{Input}
 use Rattle.c_grammar.specs.declared.expr.Expr.{Expr}
 use Rattle.c_grammar.specs.declared.expr.Expr.TheVariants as e
-use Rattle.c_grammar.specs.Tokens.{Spot, Bounded, name, number, word, sign}
-use Rattle.c_grammar.specs.Signs.{rank, loosest, is_unary_operator}
+use Rattle.c_grammar.specs.BoundedTokens.{Spot, Bounded, name, number, word, sign}
+use Rattle.c_grammar.specs.Precedence.{rank, loosest, is_unary_operator}
 
 mutual
   -- An expression. Its operators of two operands are counted from its first token on.

@@ -1,4 +1,4 @@
--- The words of the source language (ISO/IEC 9899, section 6.4.1, and the words of this profile).
+-- Promise: the words of the source language (ISO/IEC 9899, section 6.4.1, and the words of this profile).
 use Rattle.std.specs.Prelude.{ℕ, List, [], ◌∷◌, Option, codes, find}
 use Rattle.std.specs.Str.{bytes_eq}
 use Rattle.c_token.specs.declared.words.Word.{Word}
@@ -32,5 +32,5 @@ words = Int ∷ Unsigned ∷ Void ∷ Const ∷ If ∷ Else ∷ While ∷ For �
     ∷ Verified ∷ Private ∷ Shared ∷ Logged ∷ Untrusted ∷ []
 
 -- the word that these bytes spell, if they spell one
-abbrev pub word_of : List ℕ → Option Word
-word_of bytes = find (λ word. bytes_eq (word_spelling word) bytes) words
+abbrev pub word_spelled : List ℕ → Option Word
+word_spelled bytes = find (λ word. bytes_eq (word_spelling word) bytes) words

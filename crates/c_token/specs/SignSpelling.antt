@@ -1,4 +1,4 @@
--- The signs of the source language (ISO/IEC 9899, section 6.4.6).
+-- Promise: the signs of the source language (ISO/IEC 9899, section 6.4.6).
 use Rattle.std.specs.Prelude.{ℕ, List, [], ◌∷◌, Option, codes, find}
 use Rattle.std.specs.Str.{bytes_eq}
 use Rattle.c_token.specs.declared.signs.Sign.{Sign}
@@ -44,5 +44,5 @@ signs = LeftParenthesis ∷ RightParenthesis ∷ LeftBrace ∷ RightBrace ∷ Le
     ∷ NotEqualTo ∷ ShiftLeft ∷ ShiftRight ∷ LogicalAnd ∷ LogicalOr ∷ []
 
 -- the sign that these bytes spell, if they spell one
-abbrev pub sign_of : List ℕ → Option Sign
-sign_of bytes = find (λ sign. bytes_eq (sign_spelling sign) bytes) signs
+abbrev pub sign_spelled : List ℕ → Option Sign
+sign_spelled bytes = find (λ sign. bytes_eq (sign_spelling sign) bytes) signs

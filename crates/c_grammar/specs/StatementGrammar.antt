@@ -8,8 +8,8 @@ use Rattle.c_token.specs.declared.words.Word.TheVariants as w
 use Rattle.c_grammar.specs.declared.expr.Expr.{Expr}
 use Rattle.c_grammar.specs.declared.stmt.Stmt.{Stmt}
 use Rattle.c_grammar.specs.declared.stmt.Stmt.TheVariants as s
-use Rattle.c_grammar.specs.Tokens.{Spot, Bounded, name, word, sign}
-use Rattle.c_grammar.specs.Expressions.{Expression, Arguments}
+use Rattle.c_grammar.specs.BoundedTokens.{Spot, Bounded, name, word, sign}
+use Rattle.c_grammar.specs.ExpressionGrammar.{Expression, Arguments}
 
 -- `int`, or `unsigned`, or `unsigned int`, and whether it is unsigned. The first word stands at this spot.
 pub data IsType : Spot → List Bounded → Bool → Type 0 where
