@@ -105,6 +105,10 @@ odd_digits : script_of (codes "start log 0 99 000") ≡ Err (Hex 1)
 unfolding script_computes
 odd_digits = refl
 
+one_digit : script_of (codes "suspend 0 log 0 3 4") ≡ Err (Hex 1)
+unfolding script_computes
+one_digit = refl
+
 past_open : script_of (codes "start open 65535 0000") ≡ Err (Range 1)
 unfolding script_computes
 past_open = refl

@@ -5,7 +5,7 @@ use Rattle.std.specs.List.{list_all, starts_with}
 use Rattle.std.specs.Option.{ok_or}
 use Rattle.std.specs.Str.Lines.{lines}
 use Rattle.aegis_num.specs.declared.limits.TheConstants.{MAX_CHANGES, MAX_CHANGE_BYTES}
-use Rattle.adversary_script.specs.declared.change.TheConstants.{UNTRUSTED_START}
+use Rattle.regions.specs.declared.addresses.TheConstants.{UNTRUSTED_START}
 use Rattle.adversary_script.specs.declared.change.When.{When}
 use Rattle.adversary_script.specs.declared.change.When.TheVariants as when
 use Rattle.adversary_script.specs.declared.change.Target.{Target}

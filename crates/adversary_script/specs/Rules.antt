@@ -2,7 +2,7 @@
 use Rattle.std.specs.Prelude.{◌≡◌, ℕ, ◌+◌, ◌≤◌, nat_le, nat_lt, Bool, true, false, ◌&&◌, List, [], ◌∷◌, length, sum_by}
 use Rattle.std.specs.List.{list_all}
 use Rattle.aegis_num.specs.declared.limits.TheConstants.{MAX_CHANGES, MAX_CHANGE_BYTES, SAVE_SLOTS}
-use Rattle.adversary_script.specs.declared.change.TheConstants.{OPEN_BYTES, STORED_BLOCK_BYTES}
+use Rattle.regions.specs.declared.addresses.TheConstants.{OPEN_END, STORED_BLOCK_BYTES}
 use Rattle.adversary_script.specs.declared.change.When.{When}
 use Rattle.adversary_script.specs.declared.change.When.TheVariants.{Start, At, Suspend}
 use Rattle.adversary_script.specs.declared.change.What.{What}
@@ -11,7 +11,7 @@ use Rattle.adversary_script.specs.declared.change.Change.{Change}
 
 -- bytes stay among the open ones, or within their block, and a slot is one of those that there are
 abbrev pub is_in_range : What → Bool
-is_in_range (Open at bytes) = nat_le (at + length bytes) OPEN_BYTES
+is_in_range (Open at bytes) = nat_le (at + length bytes) OPEN_END
 is_in_range (Bytes target at bytes) = nat_le (at + length bytes) STORED_BLOCK_BYTES
 is_in_range (Save slot target) = nat_lt slot SAVE_SLOTS
 is_in_range (Back slot target) = nat_lt slot SAVE_SLOTS

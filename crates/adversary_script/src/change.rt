@@ -1,15 +1,7 @@
 //! A change of off-chip memory, and when it is made.
 use crate::bytes::Bytes;
 use aegis_num::limits::SAVE_SLOTS;
-
-/// How many open bytes there are.
-pub const OPEN_BYTES: u32 = 65_536;
-
-/// How many bytes a block has off chip: 64 of payload and 8 of its stamp.
-pub const STORED_BLOCK_BYTES: u32 = 72;
-
-/// The open address where untrusted code starts.
-pub const UNTRUSTED_START: u32 = 0x2000;
+use regions::{OPEN_END, STORED_BLOCK_BYTES};
 
 /// When a change is made.
 #[derive(Clone, Copy, Debug, PartialEq, Eq)]
@@ -96,10 +88,10 @@ impl What {
     {
         match self {
             What::Open { at, bytes } => {
-                *at as usize + bytes.as_slice().len() <= OPEN_BYTES as usize
+                *at as usize + bytes.as_slice().len() <= OPEN_END as usize
             }
             What::Bytes { at, bytes, .. } => {
-                *at as usize + bytes.as_slice().len() <= STORED_BLOCK_BYTES as usize
+                *at as usize + bytes.as_slice().len() <= STORED_BLOCK_BYTES
             }
             What::Save { slot, .. } | What::Back { slot, .. } => *slot < SAVE_SLOTS,
             What::Copy { .. } => true,

@@ -14,7 +14,7 @@ mod script;
 mod value;
 
 pub use bytes::Bytes;
-pub use change::{Change, OPEN_BYTES, STORED_BLOCK_BYTES, Target, UNTRUSTED_START, What, When};
+pub use change::{Change, Target, What, When};
 pub use error::ScriptError;
 pub use reading::read_script;
 pub use script::{Changes, Script};

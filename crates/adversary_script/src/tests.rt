@@ -1,5 +1,6 @@
 use super::*;
 use aegis_num::limits::{MAX_CHANGE_BYTES, MAX_CHANGES, MAX_SCRIPT_BYTES};
+use regions::UNTRUSTED_START;
 use std::alloc::{AllocError, Global};
 use std::test::Fail;
 
@@ -98,7 +99,7 @@ fn tells_the_first_fault(rt: HostRuntime) -> Result<(), Fail> {
         (b"at 1a code 00", ScriptError::Number { n: 1 }),
         (b"at 0x100000000 code 00", ScriptError::Number { n: 1 }),
         (b"start open 65536 0", ScriptError::Hex { n: 1 }),
-        (b"start code 0x00", ScriptError::Hex { n: 1 }),
+        (b"suspend 0 log 0 3 4", ScriptError::Hex { n: 1 }),
         (b"start open 65536 00", ScriptError::Range { n: 1 }),
         (b"start log 0 71 0000", ScriptError::Range { n: 1 }),
         (

@@ -3,10 +3,11 @@ ghost use Rattle.std.specs.Prelude.{◌≡◌};
 ghost use Rattle.adversary_script.specs.Grammar.{target_of, block as block_target, moment as when_of, deed, change, fields_say, line_says};
 ghost use Rattle.adversary_script.specs.Views.{block_of, moment_of, change_of, line_of, texts, Gives};
 
-use crate::change::{Change, Target, UNTRUSTED_START, What, When};
+use crate::change::{Change, Target, What, When};
 use crate::fault::Fault;
 use crate::fields::{are_line_bytes, bytes, fields_of, number};
 use crate::form::{Block, Form, Kind, Line, Moment, line_form};
+use regions::UNTRUSTED_START;
 use std::alloc::Global;
 
 /// The block of a kind with a number.

@@ -25,6 +25,9 @@ pub const SHARED_START: u32 = 0x8000;
 /// How many bytes a block has.
 pub const BLOCK_BYTES: u32 = 64;
 
+/// How many bytes a block has off chip: 64 of payload and 8 of its stamp.
+pub const STORED_BLOCK_BYTES: usize = 72;
+
 /// The class of an address, if it belongs to one. All bytes of a block have its class.
 #[tactic(auto, unfolding(crate::specs::Addresses::class_at))]
 pub fn class_of(layout: &Layout, at: u32) -> Option<Class>

@@ -9,7 +9,8 @@ mod rights;
 mod tree;
 
 pub use addresses::{
-    BLOCK_BYTES, LOG_START, OPEN_END, SHARED_START, TREE_START, UNTRUSTED_START, class_of,
+    BLOCK_BYTES, LOG_START, OPEN_END, SHARED_START, STORED_BLOCK_BYTES, TREE_START,
+    UNTRUSTED_START, class_of,
 };
 pub use layout::{Layout, MAX_DATA_BLOCKS, MAX_LOG_BLOCKS, MAX_SHARED_BYTES};
 pub use modes::ModeUnit;
