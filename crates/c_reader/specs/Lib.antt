@@ -1,3 +1,4 @@
 pub mod Programs
 pub mod Reads
 pub mod Refusals
+pub mod SourceText

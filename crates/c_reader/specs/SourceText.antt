@@ -1,0 +1,34 @@
+-- Promise: which program a source text is, and why it is none.
+use Rattle.std.specs.Prelude.{◌≡◌, ℕ, List, Ok, Err}
+use Rattle.c_token.specs.declared.kinds.Token.{Token}
+use Rattle.c_token.specs.declared.kinds.TokenError.{TokenError}
+use Rattle.c_token.specs.TextTokens.{tokens_of}
+use Rattle.c_token.specs.PlainText.{kinds_of}
+use Rattle.c_grammar.specs.declared.item.Program.{Program}
+use Rattle.c_grammar.specs.Places.{Reads}
+use Rattle.c_reader.specs.declared.error.SyntaxError.{SyntaxError}
+use Rattle.c_reader.specs.Refusals.{IsRefusedAs}
+
+-- the text has these tokens
+abbrev pub HasTokens : List ℕ → List Token → Type 0
+HasTokens text tokens = tokens_of text ≡ Ok tokens
+
+-- the program of the text is this one, within the limits of nesting; there is at most one
+pub record HasProgram (text : List ℕ) (program : Program) : Type 0 where
+  pub tokens : List Token
+  pub lexed : HasTokens text tokens
+  pub read : Reads (kinds_of tokens) program
+
+-- the text has no tokens, for this fault
+abbrev pub HasTokenFault : List ℕ → TokenError → Type 0
+HasTokenFault text error = tokens_of text ≡ Err error
+
+-- its tokens are no program, for this fault
+pub record HasSyntaxFault (text : List ℕ) (error : SyntaxError) : Type 0 where
+  pub tokens : List Token
+  pub lexed : HasTokens text tokens
+  pub refused : IsRefusedAs (kinds_of tokens) error
+
+-- two programs of one text are the same
+abbrev pub OneProgramOfText : Type 0
+OneProgramOfText = (text : List ℕ) (p q : Program) → HasProgram text p → HasProgram text q → p ≡ q
