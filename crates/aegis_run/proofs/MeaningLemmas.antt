@@ -19,7 +19,7 @@ use Rattle.c_grammar.specs.declared.item.Item.TheVariants as item
 use Rattle.c_grammar.specs.declared.item.Program.{Program}
 use Rattle.c_types.specs.declared.declaration.Declaration.{Declaration}
 use Rattle.c_types.specs.Sites.{declarations_of}
-use Rattle.c_semantics.specs.Tree
+use Rattle.c_semantics.specs.ResolvedTree as Tree
 use Rattle.c_semantics.specs.States.{Setting, State, Ended, Outcome, GoesOn, then, tick, releasing}
 use Rattle.c_semantics.specs.Meaning.{Calls, Flow, Returned, result_of, Meaning, meaning, meaning_of, first_state, no_class, no_calls, mean_alone}
 use Rattle.c_meaning.specs.Resolving.{Resolved, expr_step, typed, ResolvedStmt, stmt_step, resolved, body_in, number_of, main_token, program_in}

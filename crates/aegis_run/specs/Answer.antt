@@ -4,7 +4,7 @@ use Rattle.aegis_num.specs.declared.limits.TheConstants.{MAX_SOURCE_BYTES, MAX_S
 use Rattle.aegis_edge.specs.Faults.{Rose}
 use Rattle.aegis_edge.specs.Folder.{Files, HoldsWhole, content_of}
 use Rattle.aegis_edge.specs.Sink.{Appends, AppendsFront}
-use Rattle.c_evaluator.specs.Seen.{end_of}
+use Rattle.c_evaluator.specs.MachineStates.{end_of}
 use Rattle.c_grammar.specs.declared.item.Program.{Program}
 use Rattle.c_meaning.specs.Resolving.{program_in}
 use Rattle.c_semantics.specs.Meaning.{Meaning, mean_alone}

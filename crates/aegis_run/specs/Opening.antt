@@ -17,7 +17,7 @@ use Rattle.aegis_run.specs.Words as asks
 use Rattle.aegis_run.specs.Answer.{IsAbsent, IsOverlong, RunMeans, SourceFault}
 use Rattle.aegis_run.specs.declared.ends.End.TheVariants as run
 use Rattle.aegis_edge.specs.Sink.{Appends, AppendsFront}
-use Rattle.c_evaluator.specs.Seen.{end_of}
+use Rattle.c_evaluator.specs.MachineStates.{end_of}
 use Rattle.c_semantics.specs.Meaning.{Meaning}
 use Rattle.c_semantics.specs.States as outcome
 

@@ -2,7 +2,7 @@
 ghost use Rattle.std.specs.Prelude.{◌≡◌, ◌≢◌, ◌≤◌, ◌↔◌, ℕ, List, [], false, IsTrue, None, IfSome, length};
 ghost use Rattle.aegis_edge.specs.Faults.{Rose};
 ghost use Rattle.aegis_edge.specs.Sink.{Appends, AppendsFront};
-ghost use Rattle.c_evaluator.specs.Seen.{end_of};
+ghost use Rattle.c_evaluator.specs.MachineStates.{end_of};
 ghost use Rattle.c_semantics.specs.Meaning.{Meaning};
 ghost use Rattle.c_semantics.specs.States.{Ended};
 ghost use Rattle.aegis_run.specs.Words.{command_in};

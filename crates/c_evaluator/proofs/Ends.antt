@@ -2,15 +2,15 @@
 use Rattle.std.proofs.Common.{◌≡◌, ◌∙◌, ℕ, List, [], sym, ap, Err, Ok, arith}
 use Rattle.std.specs.declared.result.Result.{Result}
 use Rattle.aegis_num.specs.declared.memory.OutOfMemory.{OutOfMemory}
-use Rattle.c_semantics.specs.Tree
+use Rattle.c_semantics.specs.ResolvedTree as Tree
 use Rattle.c_semantics.specs.States.{State, Outcome, then}
 use Rattle.c_semantics.specs.Meaning.{meaning_of, outcome_of, mean, mean_alone, no_class}
-use Rattle.c_semantics.specs.Laws.{IsSameButNotes}
-use Rattle.c_semantics.specs.LawProofs.{noting_changes_nothing_else}
+use Rattle.c_semantics.specs.MeaningLaws.{IsSameButNotes}
+use Rattle.c_semantics.proofs.LawProofs.{noting_changes_nothing_else}
 use Rattle.c_evaluator.specs.declared.mean_end.MeanEnd.{MeanEnd}
 use Rattle.c_evaluator.specs.declared.fault.Fault.{Fault}
 use Rattle.c_evaluator.specs.declared.fault.Fault.TheVariants as fault
-use Rattle.c_evaluator.specs.Seen.{bare, end_of, Does, DoesAs, EndsSo}
+use Rattle.c_evaluator.specs.MachineStates.{bare, end_of, Does, DoesAs, EndsSo}
 
 pub stays-over : {A B V W : Type 0} (view : V → A) (view' : W → B) (o : Outcome A) (h : A → State → Outcome B) (f : Fault) (s : State) → DoesAs view o (Err f) s → DoesAs view' (then o h) (Err f) s
 stays-over view view' o h (fault.Index at) s d = ap (λ p. then p h) d

@@ -1,5 +1,5 @@
 -- The forms of expressions and statements that hold lists.
-use Rattle.c_semantics.specs.ViewForms.{expr_of-Called, stmt_of-Block}
+use Rattle.c_semantics.proofs.ViewForms.{expr_of-Called, stmt_of-Block}
 
 pub ruleset called_form = (expr_of-Called)
 

@@ -1,12 +1,12 @@
 -- Parameters get their arguments one by one.
 use Rattle.std.proofs.Common.{◌≡◌, ℕ, zero, suc, ◌<◌, ◌≤◌, min, List, [], ◌∷◌, length, drop, slice_index_or, arith, refl}
 use Rattle.c_semantics.specs.declared.tree.Variable.{Variable}
-use Rattle.c_semantics.specs.States.{State, write}
+use Rattle.c_semantics.specs.States.{State, writing}
 use Rattle.c_semantics.specs.Meaning.{given}
-use Rattle.c_evaluator.specs.Seen.{bare}
+use Rattle.c_evaluator.specs.MachineStates.{bare}
 
 pub given-step : (ps : List Variable) (ws : List ℕ) (i : ℕ) (p : Variable) (w : ℕ) (s : State) → i < length ps → i < length ws → p ≡ slice_index_or ps i p → w ≡ slice_index_or ws i w →
-    given bare (drop i ps) (drop i ws) s ≡ given bare (drop (suc i) ps) (drop (suc i) ws) (write bare p 0 w s)
+    given bare (drop i ps) (drop i ws) s ≡ given bare (drop (suc i) ps) (drop (suc i) ws) (writing bare p 0 w s)
 given-step [] ws i p w s below below' e e' = absurd (omega (arith, below))
 given-step (q ∷ ps) [] i p w s below below' e e' = absurd (omega (arith, below'))
 given-step (q ∷ ps) (v ∷ ws) zero p w s below below' e e' = rw (e, e') refl

@@ -6,7 +6,7 @@ use Rattle.std.proofs.lemmas.List.{get_or-set_other}
 use Rattle.std.proofs.lemmas.Grind.{get_or-set_at}
 use Rattle.std.specs.Prelude.{slice_get}
 use Rattle.c_semantics.specs.States.{State, changed}
-use Rattle.c_evaluator.specs.Seen.{memory_of}
+use Rattle.c_evaluator.specs.MachineStates.{memory_of}
 
 pub slice_index-none : (xs : List ℕ) (i : ℕ) → slice_get xs i ≡ None → slice_index xs i ≡ 0
 slice_index-none [] i e = refl

@@ -4,7 +4,7 @@ use Rattle.std.specs.Prelude.{slice_get}
 use Rattle.c_semantics.specs.declared.tree.Function.{Function}
 use Rattle.c_semantics.specs.declared.tree.Expr.{Expr}
 use Rattle.c_semantics.specs.declared.tree.Stmt.{Stmt}
-use Rattle.c_semantics.specs.Views.{expr_of, exprs_of, stmt_of, stmts_of}
+use Rattle.c_semantics.specs.ResolvedViews.{expr_of, exprs_of, stmt_of, stmts_of}
 use Rattle.c_evaluator.specs.Calls.{expr_size, arguments_size, stmt_size, functions_size}
 
 statement-smaller : (ss : List Stmt) (k : ℕ) (d : Stmt) → k < length ss → stmt_size (stmt_of (slice_index_or ss k d)) < stmt_size (stmts_of ss)

@@ -1,8 +1,8 @@
 -- Objects get their words one by one, from the last one on.
 use Rattle.std.proofs.Common.{◌≡◌, ℕ, zero, suc, ◌<◌, ◌≤◌, List, [], ◌∷◌, length, drop, slice_index_or, arith, refl}
 use Rattle.c_semantics.specs.declared.tree.Object.{Object}
-use Rattle.c_semantics.specs.Views.{objects_of}
-use Rattle.c_evaluator.specs.Seen.{placed, started}
+use Rattle.c_semantics.specs.ResolvedViews.{objects_of}
+use Rattle.c_evaluator.specs.MachineStates.{placed, started}
 
 pub started-step : (os : List Object) (i : ℕ) (o : Object) (input : List ℕ) (turns : ℕ) → i < length os → o ≡ slice_index_or os i o →
     placed o.variable.token o.first (started (objects_of (drop (suc i) os)) input turns) ≡ started (objects_of (drop i os)) input turns

@@ -3,11 +3,11 @@ use Rattle.std.specs.Prelude.{ℕ, ◌+◌, List, [], ◌∷◌, Option, Some, N
 use Rattle.c_semantics.specs.declared.tree.Function.{Function}
 use Rattle.c_semantics.specs.declared.tree.Expr.{Expr}
 use Rattle.c_semantics.specs.declared.tree.Stmt.{Stmt}
-use Rattle.c_semantics.specs.Tree
+use Rattle.c_semantics.specs.ResolvedTree as Tree
 use Rattle.c_semantics.specs.States.{State, Outcome}
 use Rattle.c_semantics.specs.Meaning.{Calls, calls_of, turn, Turn, condition, meaning}
-use Rattle.c_semantics.specs.Views.{functions_of, stmt_of, stmts_of, part_of, branch_of}
-use Rattle.c_evaluator.specs.Seen.{bare}
+use Rattle.c_semantics.specs.ResolvedViews.{functions_of, stmt_of, stmts_of, part_of, branch_of}
+use Rattle.c_evaluator.specs.MachineStates.{bare}
 
 -- the calls of these functions
 abbrev pub callable : List Function → Calls

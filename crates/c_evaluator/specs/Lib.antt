@@ -1,2 +1,2 @@
 pub mod Calls
-pub mod Seen
+pub mod MachineStates

@@ -4,9 +4,9 @@ ghost use Rattle.std.specs.Option.{option_copied};
 ghost use Rattle.aegis_num.specs.Operators.{truth};
 ghost use Rattle.c_semantics.specs.States as states;
 ghost use Rattle.c_semantics.specs.Meaning.{value, values, meaning, loop, value_or_zero, condition, result_of, given};
-ghost use Rattle.c_semantics.specs.Views.{expr_of, exprs_of, stmt_of, stmts_of, branch_of, part_of};
+ghost use Rattle.c_semantics.specs.ResolvedViews.{expr_of, exprs_of, stmt_of, stmts_of, branch_of, part_of};
 ghost use Rattle.c_evaluator.specs.Calls.{callable, one_turn};
-ghost use Rattle.c_evaluator.specs.Seen.{bare, seen, flow_of, Does, DoesWords, DoesFlow, DoesTurn};
+ghost use Rattle.c_evaluator.specs.MachineStates.{bare, seen, flow_of, Does, DoesWords, DoesFlow, DoesTurn};
 
 use crate::fault::Fault;
 use crate::flow::{Flow, Turn};
@@ -115,11 +115,11 @@ fn statements(machine: &mut Machine, functions: &[Function], ss: &[Stmt]) -> Res
 {
     for s in ss {
         let flow = statement(machine, functions, s)?;
-        if flow != Flow::Next {
+        if flow != Flow::Completed {
             return Ok(flow);
         }
     }
-    Ok(Flow::Next)
+    Ok(Flow::Completed)
 }
 
 /// What a statement does.
@@ -128,17 +128,17 @@ fn statement(machine: &mut Machine, functions: &[Function], s: &Stmt) -> Result<
     ensures does { DoesFlow (meaning bare (callable functions.now) (stmt_of s.now) (seen machine.old)) result (seen machine.new) }
 {
     match s {
-        Stmt::Empty => Ok(Flow::Next),
+        Stmt::Empty => Ok(Flow::Completed),
         Stmt::Block { body } => statements(machine, functions, body.as_slice()),
         Stmt::Local { variable, value } => {
             let first = value_or_zero(machine, functions, value)?;
             machine.write(*variable, 0, first)?;
-            Ok(Flow::Next)
+            Ok(Flow::Completed)
         }
         Stmt::Assign { variable, value } => {
             let word = value_of(machine, functions, value)?;
             machine.write(*variable, 0, word)?;
-            Ok(Flow::Next)
+            Ok(Flow::Completed)
         }
         Stmt::Store {
             at,
@@ -151,7 +151,7 @@ fn statement(machine: &mut Machine, functions: &[Function], s: &Stmt) -> Result<
             let place = machine.within(*at, *length, index)?;
             let stored = value_of(machine, functions, value)?;
             machine.write(*array, place, stored)?;
-            Ok(Flow::Next)
+            Ok(Flow::Completed)
         }
         Stmt::Call {
             function,
@@ -159,15 +159,15 @@ fn statement(machine: &mut Machine, functions: &[Function], s: &Stmt) -> Result<
         } => {
             let words = values_of(machine, functions, arguments.as_slice())?;
             call(machine, functions, *function, words)?;
-            Ok(Flow::Next)
+            Ok(Flow::Completed)
         }
-        Stmt::Suspend => Ok(Flow::Next),
+        Stmt::Suspend => Ok(Flow::Completed),
         Stmt::Release { value } => {
             let word = value_of(machine, functions, value)?;
             machine.release(word)?;
-            Ok(Flow::Next)
+            Ok(Flow::Completed)
         }
-        Stmt::Check => Ok(Flow::Next),
+        Stmt::Check => Ok(Flow::Completed),
         Stmt::Return { value } => {
             let word = value_or_zero(machine, functions, value)?;
             Ok(Flow::Returned(word))
@@ -219,7 +219,7 @@ fn branch(
     ensures does { DoesFlow (meaning bare (callable functions.now) (branch_of s.now) (seen machine.old)) result (seen machine.new) }
 {
     match s {
-        None => Ok(Flow::Next),
+        None => Ok(Flow::Completed),
         Some(s) => statement(machine, functions, s.get()),
     }
 }
@@ -264,13 +264,13 @@ fn turn(
         Some(test) => value_of(machine, functions, test)?,
     };
     if word == 0 {
-        return Ok(Turn::Leaves(Flow::Next));
+        return Ok(Turn::Leaves(Flow::Completed));
     }
     machine.begin_turn()?;
     match statement(machine, functions, body)? {
-        Flow::Broke => Ok(Turn::Leaves(Flow::Next)),
+        Flow::Broke => Ok(Turn::Leaves(Flow::Completed)),
         Flow::Returned(word) => Ok(Turn::Leaves(Flow::Returned(word))),
-        Flow::Next | Flow::Continued => {
+        Flow::Completed | Flow::Continued => {
             branch(machine, functions, step)?;
             Ok(Turn::Again)
         }

@@ -4,7 +4,7 @@
 #[derive(Clone, Copy, Debug, PartialEq, Eq)]
 pub enum Flow {
     /// For the next one.
-    Next,
+    Completed,
     /// By `break`.
     Broke,
     /// By `continue`.

@@ -1,9 +1,9 @@
 //! What an evaluation keeps.
 ghost use Rattle.std.specs.Prelude.{◌≡◌, ℕ, ◌<◌, [], length, slice_index, OnOk, IfErr, IfOk};
 ghost use Rattle.execution.specs.Traffic.{next_of};
-ghost use Rattle.c_semantics.specs.States.{Outcome, GoesOn, taking_input, releasing, begin_turn, within, write};
-ghost use Rattle.c_semantics.specs.Views.{objects_of};
-ghost use Rattle.c_evaluator.specs.Seen.{bare, memory_of, placed, seen, started, Does};
+ghost use Rattle.c_semantics.specs.States.{Outcome, GoesOn, taking_input, releasing, begin_turn, within, writing};
+ghost use Rattle.c_semantics.specs.ResolvedViews.{objects_of};
+ghost use Rattle.c_evaluator.specs.MachineStates.{bare, memory_of, placed, seen, started, Does};
 
 use crate::fault::Fault;
 use c_semantics::{Object, Variable};
@@ -116,7 +116,7 @@ impl Machine {
 
     /// An element of a variable gets a word.
     pub fn write(&mut self, variable: Variable, index: u32, word: u32) -> Result<(), Fault>
-        ensures written { OnOk result (seen self.new ≡ write bare variable index word (seen self.old)) }
+        ensures written { OnOk result (seen self.new ≡ writing bare variable index word (seen self.old)) }
         ensures err { IfErr result (λ fault. fault ≡ Fault.OutOfMemory) }
     {
         make_variable(self.alloc, &mut self.variables, variable.token)?;

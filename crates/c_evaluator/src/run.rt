@@ -1,8 +1,8 @@
 //! Whole programs.
 ghost use Rattle.std.specs.Prelude.{◌≡◌, ◌++◌, IfOk, OnOk, OnErr};
 ghost use Rattle.c_semantics.specs.Meaning.{mean_alone};
-ghost use Rattle.c_semantics.specs.Views.{program_of};
-ghost use Rattle.c_evaluator.specs.Seen.{end_of, EndsSo};
+ghost use Rattle.c_semantics.specs.ResolvedViews.{program_of};
+ghost use Rattle.c_evaluator.specs.MachineStates.{end_of, EndsSo};
 
 use crate::evaluate::call;
 use crate::fault::Fault;

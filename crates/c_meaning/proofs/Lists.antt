@@ -8,9 +8,9 @@ use Rattle.c_grammar.specs.declared.expr.Expr.TheFolds.{fold-roll-Expr}
 use Rattle.c_types.specs.declared.declaration.Declaration.{Declaration}
 use Rattle.c_types.specs.Scopes.{latest}
 use Rattle.c_semantics.specs.declared.tree.Expr as own
-use Rattle.c_semantics.specs.Tree
-use Rattle.c_semantics.specs.Views.{expr_of, exprs_of}
-use Rattle.c_semantics.specs.ViewForms.{expr_of-Called}
+use Rattle.c_semantics.specs.ResolvedTree as Tree
+use Rattle.c_semantics.specs.ResolvedViews.{expr_of, exprs_of}
+use Rattle.c_semantics.proofs.ViewForms.{expr_of-Called}
 use Rattle.c_meaning.specs.Resolving.{Resolved, arguments_in, called, expr_step, list_in, number_of, typed}
 use Rattle.c_meaning.specs.Seen.{behind_arguments}
 

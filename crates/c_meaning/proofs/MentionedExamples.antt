@@ -25,7 +25,7 @@ use Rattle.c_types.specs.Scopes.{is_again, latest}
 use Rattle.c_types.specs.Sites
 use Rattle.c_types.specs.Sites.{ExprSites, StmtSites, assign, behind, expr_sites, inside, local as local_of, looped, part_sites, stmt_sites, use_of}
 use Rattle.c_semantics.specs.declared.tree.Variable.{Variable}
-use Rattle.c_semantics.specs.Tree
+use Rattle.c_semantics.specs.ResolvedTree as Tree
 use Rattle.c_meaning.specs.Resolving
 use Rattle.c_meaning.specs.Resolving.{Resolved, ResolvedStmt, assigned, binary_of, called, function_tokens, functions_in, indexed, named, part_in, program_in, resolved, typed, variable_of}
 use Rattle.c_meaning.specs.Mentions.{Mention, Declared, Scalar, Array, Called, at_sites, in_functions, mentions, program_sites}

@@ -23,7 +23,7 @@ use Rattle.c_types.specs.Scopes.{latest}
 use Rattle.c_types.specs.Sites
 use Rattle.c_types.specs.Sites.{ExprSites, expr_sites, list_sites, exprs_in_turn}
 use Rattle.c_types.specs.Rules.{Breaks}
-use Rattle.c_semantics.specs.Tree
+use Rattle.c_semantics.specs.ResolvedTree as Tree
 use Rattle.c_meaning.specs.Resolving
 use Rattle.c_meaning.specs.Resolving.{Resolved, arguments_in, list_in, typed}
 use Rattle.c_meaning.specs.Mentions.{Mention, at_site, at_sites, bound, in_arguments, in_expr}

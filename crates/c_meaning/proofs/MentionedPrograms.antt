@@ -15,7 +15,7 @@ use Rattle.c_types.specs.Sites.{Place, behind, body_sites, declaration_of, decla
 use Rattle.c_types.specs.Rules.{Breaks, Stands, at_token}
 use Rattle.c_types.specs.Rules.Violates.{by_site}
 use Rattle.c_types.specs.Checked.{KeepsRules}
-use Rattle.c_semantics.specs.Tree
+use Rattle.c_semantics.specs.ResolvedTree as Tree
 use Rattle.c_meaning.specs.Resolving.{body_in, function_tokens, functions_in, parameters_in}
 use Rattle.c_meaning.specs.Mentions.{Declared, NamesAgree, at_sites, in_functions, in_parameters, in_stmt, items_sites}
 use Rattle.c_meaning.proofs.Uses.{TakesNone, AllTakeNone, take_none-append}

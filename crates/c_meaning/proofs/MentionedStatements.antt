@@ -14,7 +14,7 @@ use Rattle.c_types.specs.declared.site.Site.{Site}
 use Rattle.c_types.specs.Scopes.{latest}
 use Rattle.c_types.specs.Sites
 use Rattle.c_types.specs.Sites.{ExprSites, Place, StmtSites, behind, body_sites, expr_sites, inside, list_sites, looped, part_sites, stmt_sites, stmts_in_turn}
-use Rattle.c_semantics.specs.Tree
+use Rattle.c_semantics.specs.ResolvedTree as Tree
 use Rattle.c_meaning.specs.Resolving
 use Rattle.c_meaning.specs.Resolving.{Resolved, ResolvedStmt, body_in, list_in, part_in, resolved, typed}
 use Rattle.c_meaning.specs.Mentions.{Mention, bound, in_expr, in_part, in_stmt}

@@ -11,7 +11,7 @@ use Rattle.c_types.specs.Scopes.{latest, or_else}
 use Rattle.c_types.specs.Sites.{declaration_of, declarations_of, parameter, parameters_of}
 use Rattle.c_semantics.specs.declared.tree.Function as own
 use Rattle.c_semantics.specs.declared.tree.Object as object
-use Rattle.c_semantics.specs.Views.{function_of, functions_of, object_of, objects_of}
+use Rattle.c_semantics.specs.ResolvedViews.{function_of, functions_of, object_of, objects_of}
 use Rattle.c_meaning.specs.Resolving.{function_tokens, functions_in, main_name, objects_in, parameters_in, variable_of, word_of, words_of}
 
 pub tokens-at : (items : List Item) (i : ℕ) (x : Item) → i < length items → x ≡ slice_index_or items i x →

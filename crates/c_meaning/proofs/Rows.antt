@@ -7,9 +7,9 @@ use Rattle.c_grammar.specs.declared.stmt.Stmt.TheOpen.{Stmt-F}
 use Rattle.c_grammar.specs.declared.stmt.Stmt.TheFolds.{fold-roll-Stmt}
 use Rattle.c_types.specs.declared.declaration.Declaration.{Declaration}
 use Rattle.c_semantics.specs.declared.tree.Stmt as own
-use Rattle.c_semantics.specs.Tree
-use Rattle.c_semantics.specs.Views.{stmt_of, stmts_of}
-use Rattle.c_semantics.specs.ViewForms.{stmt_of-Block, stmt_of-If, stmt_of-For}
+use Rattle.c_semantics.specs.ResolvedTree as Tree
+use Rattle.c_semantics.specs.ResolvedViews.{stmt_of, stmts_of}
+use Rattle.c_semantics.proofs.ViewForms.{stmt_of-Block, stmt_of-If, stmt_of-For}
 use Rattle.c_meaning.specs.Resolving.{ResolvedStmt, body_declared, body_in, branch_declared, branch_in, in_turn, part_in, plain, resolved, stmt_step, typed}
 use Rattle.c_meaning.specs.Seen.{behind_stmts}
 

@@ -18,7 +18,7 @@ use Rattle.c_types.specs.declared.site.Site.TheVariants as site
 use Rattle.c_types.specs.Scopes.{latest, or_else, same_name}
 use Rattle.c_types.specs.Rules.{Breaks, is_void}
 use Rattle.c_types.specs.Rules.Breaks.{unknown, array_whole, scalar_indexed, object_called, function_named, no_value, other_number}
-use Rattle.c_semantics.specs.Tree
+use Rattle.c_semantics.specs.ResolvedTree as Tree
 use Rattle.c_meaning.specs.Resolving.{Typed, assigned, binary_of, call_of, called, indexed, list_in, named, unary_of}
 use Rattle.c_meaning.specs.Mentions.{bound, bound_to, in_arguments, in_expr, in_stmt}
 

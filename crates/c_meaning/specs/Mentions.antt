@@ -11,7 +11,7 @@ use Rattle.c_types.specs.declared.site.Site.TheVariants as site
 use Rattle.c_types.specs.Sites.{item_sites}
 use Rattle.c_types.specs.Checked.{IsRead, KeepsRules}
 use Rattle.c_semantics.specs.declared.tree.Variable.{Variable}
-use Rattle.c_semantics.specs.Tree
+use Rattle.c_semantics.specs.ResolvedTree as Tree
 use Rattle.c_meaning.specs.Resolving.{variable_of, number_of, function_tokens, program_in}
 
 pub data Mention : Type 0 where

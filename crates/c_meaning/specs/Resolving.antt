@@ -30,7 +30,7 @@ use Rattle.c_types.specs.declared.declaration.Entity.TheVariants.{Local, Object,
 use Rattle.c_types.specs.Scopes.{latest}
 use Rattle.c_types.specs.Sites.{local, class_of, declaration_of, declarations_of, parameters_of}
 use Rattle.c_semantics.specs.declared.tree.Variable.{Variable}
-use Rattle.c_semantics.specs.Tree
+use Rattle.c_semantics.specs.ResolvedTree as Tree
 
 -- an expression, and whether its type is unsigned
 pub record Typed : Type 0 where

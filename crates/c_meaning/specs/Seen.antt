@@ -1,8 +1,8 @@
 -- What the code keeps, as what the definitions speak of.
 use Rattle.std.specs.Prelude.{List, [], ◌∷◌}
-use Rattle.c_semantics.specs.Views.{expr_of, stmt_of}
+use Rattle.c_semantics.specs.ResolvedViews.{expr_of, stmt_of}
 use Rattle.c_semantics.specs.declared.tree.Stmt.{Stmt}
-use Rattle.c_semantics.specs.Tree
+use Rattle.c_semantics.specs.ResolvedTree as Tree
 use Rattle.c_meaning.specs.declared.typed.Typed.{Typed}
 use Rattle.c_meaning.specs.Resolving
 

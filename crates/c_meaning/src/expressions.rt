@@ -1,6 +1,6 @@
 //! Expressions with their names resolved.
 ghost use Rattle.std.specs.Prelude.{◌≡◌, IfOk};
-ghost use Rattle.c_semantics.specs.Views.{exprs_of};
+ghost use Rattle.c_semantics.specs.ResolvedViews.{exprs_of};
 ghost use Rattle.c_meaning.specs.Resolving.{list_in, typed};
 ghost use Rattle.c_meaning.specs.Seen.{typed_of};
 

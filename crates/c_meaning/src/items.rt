@@ -1,7 +1,7 @@
 //! What items declare, with names resolved.
 ghost use Rattle.std.specs.Prelude.{◌≡◌, [], ◌∷◌, ◌++◌, IfOk, OnOk};
 ghost use Rattle.c_types.specs.Sites.{class_of, declaration_of, declarations_of, entity_of, name_of, parameters_of, token_of};
-ghost use Rattle.c_semantics.specs.Views.{function_of, functions_of, objects_of};
+ghost use Rattle.c_semantics.specs.ResolvedViews.{function_of, functions_of, objects_of};
 ghost use Rattle.c_meaning.specs.Resolving.{function_in, function_tokens, functions_in, main_token, objects_in, parameters_in, word_of, words_of};
 
 use crate::statements::statements;

@@ -1,7 +1,7 @@
 //! What names stand for.
 ghost use Rattle.std.specs.Prelude.{◌≡◌, ◌+◌, ◌<◌, ◌^◌, Bool, IfOk, Some};
 ghost use Rattle.c_types.specs.declared.declaration.Entity.TheVariants as Entity;
-ghost use Rattle.c_semantics.specs.Views.{expr_of, exprs_of, part_of, stmt_of};
+ghost use Rattle.c_semantics.specs.ResolvedViews.{expr_of, exprs_of, part_of, stmt_of};
 ghost use Rattle.c_meaning.specs.Resolving.{assigned, call_of, called, indexed, is_unsigned, named, number_of};
 ghost use Rattle.c_meaning.specs.Seen.{typed_of};
 

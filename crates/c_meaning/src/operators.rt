@@ -2,8 +2,8 @@
 ghost use Rattle.std.specs.Prelude.{◌≡◌, IfOk};
 ghost use Rattle.c_token.specs.declared.signs.Sign.TheVariants.{LogicalAnd, LogicalOr};
 ghost use Rattle.c_meaning.specs.Resolving.{arithmetic, binary_of, by_type, comparison, shift, unary_of};
-ghost use Rattle.c_semantics.specs.Tree;
-ghost use Rattle.c_semantics.specs.Views.{expr_of};
+ghost use Rattle.c_semantics.specs.ResolvedTree as Tree;
+ghost use Rattle.c_semantics.specs.ResolvedViews.{expr_of};
 ghost use Rattle.c_meaning.specs.Seen.{typed_of};
 
 use crate::typed::{Typed, nothing};

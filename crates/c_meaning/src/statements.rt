@@ -1,6 +1,6 @@
 //! Statements with their names resolved.
 ghost use Rattle.std.specs.Prelude.{◌≡◌, ◌++◌, IfOk, OnOk};
-ghost use Rattle.c_semantics.specs.Views.{branch_of, expr_of, part_of, stmt_of, stmts_of};
+ghost use Rattle.c_semantics.specs.ResolvedViews.{branch_of, expr_of, part_of, stmt_of, stmts_of};
 ghost use Rattle.c_meaning.specs.Resolving.{body_declared, body_in, branch_declared, branch_in, part_in, resolved, typed};
 
 use crate::expressions::{listed, typed};

@@ -1,8 +1,8 @@
 //! Whole programs with their names resolved.
 ghost use Rattle.std.specs.Prelude.{◌≡◌, ◌++◌, IfOk, OnOk, OnErr};
 ghost use Rattle.c_semantics.specs.Meaning.{mean_alone};
-ghost use Rattle.c_semantics.specs.Views.{program_of};
-ghost use Rattle.c_evaluator.specs.Seen.{end_of};
+ghost use Rattle.c_semantics.specs.ResolvedViews.{program_of};
+ghost use Rattle.c_evaluator.specs.MachineStates.{end_of};
 ghost use Rattle.c_meaning.specs.Resolving.{program_in};
 
 use crate::items::{function_tokens, functions_in, main_token, objects_in};

@@ -1,1 +1,4 @@
+pub mod LawProofs
+pub mod Relating
+pub mod ViewForms
 mod Worked

@@ -4,7 +4,7 @@ use Rattle.regions.specs.declared.rights.Class.TheVariants.{Open, Verified}
 use Rattle.aegis_num.specs.declared.operators.BinaryOp.TheVariants.{Add, Sub, DivS, DivU, ShrS, LtS, LtU}
 use Rattle.aegis_num.specs.declared.operators.UnaryOp.TheVariants.{Neg}
 use Rattle.c_semantics.specs.declared.tree.Variable.{Variable}
-use Rattle.c_semantics.specs.Tree.{Number, Scalar, Indexed, Called, Input, Unary, Binary, Both, Either, NoArguments, Argument, Stmt, Nothing, Then, Block, Local, Assign, Store, Suspend, Release, Return, Break, Continue, If, While, For, Program}
+use Rattle.c_semantics.specs.ResolvedTree.{Number, Scalar, Indexed, Called, Input, Unary, Binary, Both, Either, NoArguments, Argument, Stmt, Nothing, Then, Block, Local, Assign, Store, Suspend, Release, Return, Break, Continue, If, While, For, Program}
 use Rattle.c_semantics.specs.States.{Setting, Ended, Index, Divide, Starved, Turns, is_open}
 use Rattle.c_semantics.specs.Meaning.{mean}
 
@@ -137,8 +137,8 @@ stepped-turns = (refl, refl)
 
 -- int f(int x,int y){release(x);y=1;}int main(void){release(f(input(),input()) || 1 && 0/0);}
 -- arguments go from left to right, a function that runs to its end gives 0, and the right side of && is evaluated behind a 1
-abbrev called : Program
-called = record {
+abbrev argument_order : Program
+argument_order = record {
   objects = [];
   functions = record {
     parameters = local 4 ∷ local 7 ∷ [];
@@ -150,8 +150,8 @@ called = record {
   main = 1;
 }
 
-called-end : ((mean plain called (8 ∷ 9 ∷ []) [] 0).end ≡ Divide 44) × ((mean plain called (8 ∷ 9 ∷ []) [] 0).traffic.bytes ≡ 8 ∷ [])
-called-end = (refl, refl)
+argument_order-end : ((mean plain argument_order (8 ∷ 9 ∷ []) [] 0).end ≡ Divide 44) × ((mean plain argument_order (8 ∷ 9 ∷ []) [] 0).traffic.bytes ≡ 8 ∷ [])
+argument_order-end = (refl, refl)
 
 -- the index is tested before the right side runs: a[3]=1/0 ends at the bracket
 tested_first : (mean plain (only_main (Store 8 (record { token = 0; class = Some Verified }) 3 (Number 3) (Binary 12 DivS (Number 1) (Number 0)))) [] [] 0).end ≡ Index 8

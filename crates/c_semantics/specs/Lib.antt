@@ -1,8 +1,5 @@
-pub mod LawProofs
-pub mod Laws
 pub mod Meaning
-pub mod Relating
+pub mod MeaningLaws
+pub mod ResolvedTree
+pub mod ResolvedViews
 pub mod States
-pub mod Tree
-pub mod ViewForms
-pub mod Views

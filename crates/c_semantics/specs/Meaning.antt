@@ -4,12 +4,12 @@ use Rattle.execution.specs.Traffic.{Entry, Traffic, traffic_from, after_check, a
 use Rattle.aegis_num.specs.Operators.{truth, unary}
 use Rattle.c_semantics.specs.declared.tree.Variable.{Variable}
 use Rattle.regions.specs.declared.rights.Class.{Class}
-use Rattle.c_semantics.specs.Tree.{Element, Expr, Number, Scalar, Indexed, Called, Input, Unary, Binary, Both, Either, Arguments, NoArguments, Argument, Stmt, Nothing, Then, Empty, Block, Local, Assign, Store, Call, Suspend, Release, Check, Return, Break, Continue, If, While, For, Function, Object, Program}
-use Rattle.c_semantics.specs.States.{Setting, State, End, Ended, Turns, Outcome, GoesOn, EndsAs, then, choose, tick, noting, read, write, within, applied, taking_input, releasing, begin_turn}
+use Rattle.c_semantics.specs.ResolvedTree.{Element, Expr, Number, Scalar, Indexed, Called, Input, Unary, Binary, Both, Either, Arguments, NoArguments, Argument, Stmt, Nothing, Then, Empty, Block, Local, Assign, Store, Call, Suspend, Release, Check, Return, Break, Continue, If, While, For, Function, Object, Program}
+use Rattle.c_semantics.specs.States.{Setting, State, End, Ended, Turns, Outcome, GoesOn, EndsAs, then, choose, tick, noting, reading, writing, within, applied, taking_input, releasing, begin_turn}
 
 -- how a statement is left: for the next one, by `break`, by `continue`, or by `return` with a value
 pub data Flow : Type 0 where
-  Next : Flow
+  Completed : Flow
   Broke : Flow
   Continued : Flow
   Returned : (value : ℕ) → Flow
@@ -32,9 +32,9 @@ truth_of word state = GoesOn (truth (not (word == 0))) state
 abbrev mutual
   pub value : Setting → Calls → Expr → State → Outcome ℕ
   value setting calls (Number word) state = GoesOn word (tick setting state)
-  value setting calls (Scalar x) state = read setting x 0 (tick setting state)
+  value setting calls (Scalar x) state = reading setting x 0 (tick setting state)
   value setting calls (Indexed at x length index) state =
-      then (value setting calls index (tick setting state)) (λ i s. then (within at length i s) (read setting x))
+      then (value setting calls index (tick setting state)) (λ i s. then (within at length i s) (reading setting x))
   value setting calls (Called function arguments) state =
       then (values setting calls arguments (tick setting state)) (calls function)
   value setting calls Input state = taking_input (tick setting state)
@@ -63,57 +63,57 @@ condition setting calls None state = GoesOn 1 state
 condition setting calls (Some e) state = value setting calls e state
 
 -- what stands behind a statement runs where that was left for the next one
-abbrev pub behind : (State → Outcome Flow) → Flow → State → Outcome Flow
-behind second Next state = second state
-behind second flow state = GoesOn flow state
+abbrev pub after_statement : (State → Outcome Flow) → Flow → State → Outcome Flow
+after_statement second Completed state = second state
+after_statement second flow state = GoesOn flow state
 
 -- behind the body of a loop: `break` and `return` leave the loop, and else the step is made
-abbrev pub behind_body : (State → Outcome Flow) → Flow → State → Outcome Turn
-behind_body step Broke state = GoesOn (Leaves Next) state
-behind_body step (Returned v) state = GoesOn (Leaves (Returned v)) state
-behind_body step flow state = then (step state) (λ flow' s. GoesOn Again s)
+abbrev pub after_body : (State → Outcome Flow) → Flow → State → Outcome Turn
+after_body step Broke state = GoesOn (Leaves Completed) state
+after_body step (Returned v) state = GoesOn (Leaves (Returned v)) state
+after_body step flow state = then (step state) (λ flow' s. GoesOn Again s)
 
 -- the condition, and where it holds a turn: it begins, then the body, then the step
 abbrev pub turn : Setting → (State → Outcome ℕ) → (State → Outcome Flow) → (State → Outcome Flow) → State → Outcome Turn
 turn setting test body step state =
-    then (test state) (λ v s. choose (v == 0) (GoesOn (Leaves Next)) (λ s'. then (begin_turn setting s'.turns s') (λ left s''. then (body s'') (behind_body step))) s)
+    then (test state) (λ v s. choose (v == 0) (GoesOn (Leaves Completed)) (λ s'. then (begin_turn setting s'.turns s') (λ left s''. then (body s'') (after_body step))) s)
 
 -- behind a turn
-abbrev pub behind_turn : (State → Outcome Flow) → Turn → State → Outcome Flow
-behind_turn again Again state = again state
-behind_turn again (Leaves flow) state = GoesOn flow state
+abbrev pub after_turn : (State → Outcome Flow) → Turn → State → Outcome Flow
+after_turn again Again state = again state
+after_turn again (Leaves flow) state = GoesOn flow state
 
 -- Turn after turn. There is one round more than turns that may begin, so a turn beyond the bound ends the run by itself, and
 -- the first case does not come.
 abbrev pub iterate : ℕ → (State → Outcome Turn) → State → Outcome Flow
 iterate zero one_turn state = EndsAs Turns state
-iterate (suc rounds) one_turn state = then (one_turn state) (behind_turn (iterate rounds one_turn))
+iterate (suc rounds) one_turn state = then (one_turn state) (after_turn (iterate rounds one_turn))
 
 abbrev pub loop : (State → Outcome Turn) → State → Outcome Flow
 loop one_turn state = iterate (suc state.turns) one_turn state
 
 -- a statement that goes on to the next one
-abbrev pub next : State → Outcome Flow
-next state = GoesOn Next state
+abbrev pub completes : State → Outcome Flow
+completes state = GoesOn Completed state
 
 -- each statement for one unit of work
 abbrev pub meaning : Setting → Calls → Stmt → State → Outcome Flow
-meaning setting calls Nothing state = next state
-meaning setting calls (Then first second) state = then (meaning setting calls first state) (behind (meaning setting calls second))
-meaning setting calls Empty state = next (tick setting state)
+meaning setting calls Nothing state = completes state
+meaning setting calls (Then first second) state = then (meaning setting calls first state) (after_statement (meaning setting calls second))
+meaning setting calls Empty state = completes (tick setting state)
 meaning setting calls (Block body) state = meaning setting calls body (tick setting state)
 meaning setting calls (Local x e) state =
-    then (value_or_zero setting calls e (tick setting state)) (λ v s. next (write setting x 0 v s))
+    then (value_or_zero setting calls e (tick setting state)) (λ v s. completes (writing setting x 0 v s))
 meaning setting calls (Assign x e) state =
-    then (value setting calls e (tick setting state)) (λ v s. next (write setting x 0 v s))
+    then (value setting calls e (tick setting state)) (λ v s. completes (writing setting x 0 v s))
 meaning setting calls (Store at x length index e) state =
-    then (value setting calls index (tick setting state)) (λ i s. then (within at length i s) (λ i' s'. then (value setting calls e s') (λ v s''. next (write setting x i' v s''))))
+    then (value setting calls index (tick setting state)) (λ i s. then (within at length i s) (λ i' s'. then (value setting calls e s') (λ v s''. completes (writing setting x i' v s''))))
 meaning setting calls (Call function arguments) state =
-    then (values setting calls arguments (tick setting state)) (λ vs s. then (calls function vs s) (λ v s'. next s'))
-meaning setting calls Suspend state = next (noting setting after_suspension (tick setting state))
+    then (values setting calls arguments (tick setting state)) (λ vs s. then (calls function vs s) (λ v s'. completes s'))
+meaning setting calls Suspend state = completes (noting setting after_suspension (tick setting state))
 meaning setting calls (Release e) state =
-    then (value setting calls e (tick setting state)) (λ v s. next (releasing v s))
-meaning setting calls Check state = next (noting setting after_check (tick setting state))
+    then (value setting calls e (tick setting state)) (λ v s. completes (releasing v s))
+meaning setting calls Check state = completes (noting setting after_check (tick setting state))
 meaning setting calls (Return e) state =
     then (value_or_zero setting calls e (tick setting state)) (λ v s. GoesOn (Returned v) s)
 meaning setting calls Break state = GoesOn Broke (tick setting state)
@@ -121,7 +121,7 @@ meaning setting calls Continue state = GoesOn Continued (tick setting state)
 meaning setting calls (If test body other) state =
     then (value setting calls test (tick setting state)) (λ v s. choose (v == 0) (meaning setting calls other) (meaning setting calls body) s)
 meaning setting calls (While test body) state =
-    loop (turn setting (value setting calls test) (meaning setting calls body) next) (tick setting state)
+    loop (turn setting (value setting calls test) (meaning setting calls body) completes) (tick setting state)
 meaning setting calls (For first test step body) state =
     then (meaning setting calls first (tick setting state)) (λ flow s. loop (turn setting (condition setting calls test) (meaning setting calls body) (meaning setting calls step)) s)
 
@@ -134,16 +134,16 @@ result_of flow = 0
 abbrev pub given : Setting → List Variable → List ℕ → State → State
 given setting [] words state = state
 given setting (x ∷ xs) [] state = state
-given setting (x ∷ xs) (word ∷ words) state = given setting xs words (write setting x 0 word state)
+given setting (x ∷ xs) (word ∷ words) state = given setting xs words (writing setting x 0 word state)
 
 -- a function is called, for one unit of work
-abbrev pub called : Setting → Calls → Function → List ℕ → State → Outcome ℕ
-called setting calls f words state =
+abbrev pub function_meaning : Setting → Calls → Function → List ℕ → State → Outcome ℕ
+function_meaning setting calls f words state =
     then (meaning setting calls f.body (given setting f.parameters words (tick setting state))) (λ flow s. GoesOn (result_of flow) s)
 
 -- one function more, with this number, can be called; its body calls those before it
 abbrev pub with_function : Setting → Calls → ℕ → Function → Calls
-with_function setting calls number f function words state = choose (number == function) (called setting calls f words) (calls function words) state
+with_function setting calls number f function words state = choose (number == function) (function_meaning setting calls f words) (calls function words) state
 
 -- there is no function yet
 abbrev pub no_calls : Calls

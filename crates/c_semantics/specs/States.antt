@@ -6,7 +6,7 @@ use Rattle.regions.specs.declared.rights.Class.TheVariants.{Open}
 use Rattle.aegis_num.specs.declared.operators.BinaryOp.{BinaryOp}
 use Rattle.aegis_num.specs.Operators.{binary, traps}
 use Rattle.c_semantics.specs.declared.tree.Variable.{Variable}
-use Rattle.c_semantics.specs.Tree.{Element}
+use Rattle.c_semantics.specs.ResolvedTree.{Element}
 
 -- which classes are loose, and whether work, checks, suspensions and shared writes are noted
 pub record Setting : Type 0 where
@@ -42,9 +42,9 @@ then (GoesOn value state) go = go value state
 then (EndsAs end state) go = EndsAs end state
 
 -- the state come to
-abbrev pub state_of : {A : Type 0} → Outcome A → State
-state_of (GoesOn value state) = state
-state_of (EndsAs end state) = state
+abbrev pub last_state : {A : Type 0} → Outcome A → State
+last_state (GoesOn value state) = state
+last_state (EndsAs end state) = state
 
 abbrev pub is_same_element : Element → Element → Bool
 is_same_element one other = one.variable == other.variable && one.index == other.index
@@ -80,8 +80,8 @@ abbrev pub changed : (ℕ → ℕ → ℕ) → ℕ → ℕ → ℕ → ℕ → �
 changed memory variable index word variable' index' = cond (variable == variable' && index == index') word (memory variable' index')
 
 -- the word of an element that is not loose
-abbrev pub kept : Variable → ℕ → State → Outcome ℕ
-kept x index state = GoesOn (state.memory x.token index) state
+abbrev pub kept_word : Variable → ℕ → State → Outcome ℕ
+kept_word x index state = GoesOn (state.memory x.token index) state
 
 -- a loose word, if the next entry is of this element
 abbrev pub loosely : Option ℕ → State → Outcome ℕ
@@ -91,13 +91,13 @@ loosely (Some word) state = GoesOn word (with_traffic (after_loose state.traffic
 abbrev pub element_of : Variable → ℕ → Element
 element_of x index = record { variable = x.token; index = index }
 
-abbrev pub read : Setting → Variable → ℕ → State → Outcome ℕ
-read setting x index state =
-    choose (is_in setting.is_loose x.class) (λ s. loosely (loose_word is_same_element (element_of x index) s.traffic) s) (kept x index) state
+abbrev pub reading : Setting → Variable → ℕ → State → Outcome ℕ
+reading setting x index state =
+    choose (is_in setting.is_loose x.class) (λ s. loosely (loose_word is_same_element (element_of x index) s.traffic) s) (kept_word x index) state
 
 -- an element gets a word; a write to a shared variable is noted
-abbrev pub write : Setting → Variable → ℕ → ℕ → State → State
-write setting x index word state = record state {
+abbrev pub writing : Setting → Variable → ℕ → ℕ → State → State
+writing setting x index word state = record state {
   memory = changed state.memory x.token index word;
   traffic = cond (setting.is_noted && is_in is_open x.class) (after_write (element_of x index) word state.traffic) state.traffic;
 }

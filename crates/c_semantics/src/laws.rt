@@ -1,5 +1,5 @@
 //! Laws of the meaning.
-ghost use Rattle.c_semantics.specs.Laws.{
+ghost use Rattle.c_semantics.specs.MeaningLaws.{
   FewerTurns,
   FewerTurnsLessWork,
   MoreTurns,

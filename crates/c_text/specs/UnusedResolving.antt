@@ -16,7 +16,7 @@ use Rattle.c_grammar.specs.declared.item.Program.{Program}
 use Rattle.c_types.specs.declared.declaration.Declaration.{Declaration}
 use Rattle.c_types.specs.Scopes.{latest}
 use Rattle.c_types.specs.Sites.{class_of, declaration_of, declarations_of, parameters_of}
-use Rattle.c_semantics.specs.Tree
+use Rattle.c_semantics.specs.ResolvedTree as Tree
 use Rattle.c_meaning.specs.Resolving.{variable_of, number_of, named, indexed, called, unary_of, binary_of, Typed, Resolved, arguments_in, expr_step, typed, part_in, list_in, assigned, call_of, ResolvedStmt, plain, in_turn, stmt_step, resolved, body_in, function_tokens, words_of, objects_in, parameters_in, function_in, functions_in, main_name, main_token, program_in}
 use Rattle.c_text.specs.Unused.{blank_expr, blank_exprs, blank_part, blank_stmt, blank_stmts, blank_parameters, blank_items, blank}
 use Rattle.c_text.specs.UnusedLayers.{expr_layer, expr-roll, stmt_layer, stmt-roll}

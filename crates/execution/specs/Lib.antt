@@ -1,4 +1,2 @@
 pub mod Run
-pub mod RunLaws
 pub mod Traffic
-pub mod TrafficLaws

@@ -1,9 +1,9 @@
 -- What follows for the ideal machine, for proofs here and in the crates above.
 use Rattle.std.proofs.Common.{◌≡◌, ℕ, ◌+◌, ◌^◌, ◌%◌, Bool, true, false, if◌then◌else◌, nat_eq, Option, Some, None, refl, sym, subst}
 use Rattle.execution.specs.Run.{Next, Goes, Stops, and_then, run, state_of}
-use Rattle.execution.specs.RunLaws.{run-+, run-keeps}
+use Rattle.execution.proofs.RunLemmas.{run-+, run-keeps}
 use Rattle.execution.specs.Traffic.{Traffic, Extends, after_write, loose_word}
-use Rattle.execution.specs.TrafficLaws.{extends-refl, extends-trans, extends-input, extends-loose, extends-release, extends-write, extends-check, extends-suspension}
+use Rattle.execution.proofs.TrafficLemmas.{extends-refl, extends-trans, extends-input, extends-loose, extends-release, extends-write, extends-check, extends-suspension}
 use Rattle.orbis_word.specs.declared.Instr.{Instr}
 use Rattle.orbis_word.specs.Reading.{instruction_in}
 use Rattle.regions.specs.declared.Layout.{Layout}

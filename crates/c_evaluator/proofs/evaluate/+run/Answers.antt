@@ -2,12 +2,12 @@ use Rattle.std.proofs.Common.{◌≡◌, ◌+◌, ◌<◌, ◌∙◌, sym, ap, s
 use Rattle.std.specs.Prelude.{slice_get}
 use Rattle.std.specs.Option.{option_copied}
 use Rattle.c_semantics.specs.States as states
-use Rattle.c_semantics.specs.Tree as stmt
+use Rattle.c_semantics.specs.ResolvedTree as stmt
 use Rattle.c_semantics.specs.Meaning.{value, meaning, loop, given, result_of}
-use Rattle.c_semantics.specs.Views.{expr_of, exprs_of, stmt_of, stmts_of, branch_of, part_of}
-use Rattle.c_semantics.specs.ViewForms.{expr_of-Called, stmt_of-Block, stmt_of-While, stmt_of-For}
+use Rattle.c_semantics.specs.ResolvedViews.{expr_of, exprs_of, stmt_of, stmts_of, branch_of, part_of}
+use Rattle.c_semantics.proofs.ViewForms.{expr_of-Called, stmt_of-Block, stmt_of-While, stmt_of-For}
 use Rattle.c_evaluator.specs.Calls.{callable, one_turn, expr_size, arguments_size, stmt_size, functions_size}
-use Rattle.c_evaluator.specs.Seen.{bare, seen, Does, DoesFlow}
+use Rattle.c_evaluator.specs.MachineStates.{bare, seen, Does, DoesFlow}
 use Rattle.std.proofs.lemmas.Grind.{common_steps}
 use Rattle.c_evaluator.proofs.Ends.{stays-over}
 use Rattle.c_evaluator.proofs.Callable.{callable-none, callable-some}

@@ -2,9 +2,9 @@ use Rattle.std.proofs.Common.{◌≡◌, suc, ◌+◌, ◌++◌, drop}
 use Rattle.std.specs.Option.{option_copied}
 use Rattle.c_semantics.specs.States.{GoesOn, then}
 use Rattle.c_semantics.specs.Meaning.{values, meaning, loop, iterate}
-use Rattle.c_semantics.specs.Views.{expr_of, exprs_of, stmt_of, stmts_of, branch_of, part_of}
+use Rattle.c_semantics.specs.ResolvedViews.{expr_of, exprs_of, stmt_of, stmts_of, branch_of, part_of}
 use Rattle.c_evaluator.specs.Calls.{callable, one_turn, expr_size, arguments_size, part_size, stmt_size, functions_size}
-use Rattle.c_evaluator.specs.Seen.{bare, seen}
+use Rattle.c_evaluator.specs.MachineStates.{bare, seen}
 use Rattle.c_evaluator.proofs.evaluate.+run.Given as goal
 
 abbrev pub decreases-branch : goal.decreases-branch

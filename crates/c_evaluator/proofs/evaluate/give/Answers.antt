@@ -1,5 +1,5 @@
 use Rattle.std.proofs.Common.{◌∙◌, sym, ◌≤◌, min, length, arith}
-use Rattle.c_evaluator.specs.Seen.{seen}
+use Rattle.c_evaluator.specs.MachineStates.{seen}
 use Rattle.c_evaluator.proofs.Given.{given-end}
 use Rattle.c_evaluator.proofs.evaluate.give.Goals as goal
 

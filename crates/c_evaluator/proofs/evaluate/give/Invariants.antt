@@ -1,6 +1,6 @@
 use Rattle.std.proofs.Common.{◌≡◌, drop}
 use Rattle.c_semantics.specs.Meaning.{given}
-use Rattle.c_evaluator.specs.Seen.{bare, seen}
+use Rattle.c_evaluator.specs.MachineStates.{bare, seen}
 use Rattle.c_evaluator.proofs.evaluate.give.Given as goal
 
 abbrev pub invariant-loop-i : goal.invariant-loop-i

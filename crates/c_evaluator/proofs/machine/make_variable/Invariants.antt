@@ -1,5 +1,5 @@
 use Rattle.std.proofs.Common.{◌≡◌, ℕ, ◌+◌, ◌-◌, length}
-use Rattle.c_evaluator.specs.Seen.{memory_of}
+use Rattle.c_evaluator.specs.MachineStates.{memory_of}
 use Rattle.c_evaluator.proofs.machine.make_variable.Given as goal
 
 abbrev pub invariant-loop-alloc : goal.invariant-loop-alloc

@@ -1,8 +1,8 @@
 use Rattle.std.proofs.Common.{◌≡◌, ◌∙◌, ap, sym, subst, [], ◌++◌, Ok}
 use Rattle.c_semantics.specs.Meaning.{outcome_of}
-use Rattle.c_semantics.specs.Views.{objects_of, program_of}
+use Rattle.c_semantics.specs.ResolvedViews.{objects_of, program_of}
 use Rattle.c_evaluator.specs.Calls.{callable}
-use Rattle.c_evaluator.specs.Seen.{bare, seen, started, Does, EndsSo}
+use Rattle.c_evaluator.specs.MachineStates.{bare, seen, started, Does, EndsSo}
 use Rattle.c_evaluator.proofs.Ends.{told}
 use Rattle.c_evaluator.proofs.run.mean_resolved.Goals as goal
 

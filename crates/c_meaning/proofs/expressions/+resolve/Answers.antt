@@ -1,6 +1,6 @@
 use Rattle.std.proofs.Common.{◌∙◌, ap, sym}
 use Rattle.c_types.specs.Scopes.{latest}
-use Rattle.c_semantics.specs.Views.{exprs_of}
+use Rattle.c_semantics.specs.ResolvedViews.{exprs_of}
 use Rattle.c_meaning.specs.Resolving.{called, list_in, typed}
 use Rattle.c_meaning.proofs.Lists.{typed-Call}
 use Rattle.c_meaning.proofs.expressions.+resolve.Goals as goal

@@ -1,5 +1,5 @@
 use Rattle.std.proofs.Common.{◌≡◌, drop}
-use Rattle.c_semantics.specs.Views.{exprs_of}
+use Rattle.c_semantics.specs.ResolvedViews.{exprs_of}
 use Rattle.c_meaning.specs.Resolving.{list_in}
 use Rattle.c_meaning.specs.Seen.{behind_arguments}
 use Rattle.c_meaning.proofs.expressions.+resolve.Given as goal

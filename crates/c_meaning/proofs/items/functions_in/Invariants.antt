@@ -1,6 +1,6 @@
 use Rattle.std.proofs.Common.{◌≡◌, ◌++◌, drop}
 use Rattle.c_types.specs.Sites.{declarations_of}
-use Rattle.c_semantics.specs.Views.{functions_of}
+use Rattle.c_semantics.specs.ResolvedViews.{functions_of}
 use Rattle.c_meaning.specs.Resolving.{functions_in}
 use Rattle.c_meaning.proofs.items.functions_in.Given as goal
 

@@ -1,5 +1,5 @@
 use Rattle.std.proofs.Common.{◌≡◌, ◌++◌, drop}
-use Rattle.c_semantics.specs.Views.{objects_of}
+use Rattle.c_semantics.specs.ResolvedViews.{objects_of}
 use Rattle.c_meaning.specs.Resolving.{objects_in}
 use Rattle.c_meaning.proofs.items.objects_in.Given as goal
 

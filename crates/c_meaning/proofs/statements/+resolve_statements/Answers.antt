@@ -1,7 +1,7 @@
 use Rattle.std.proofs.Common.{◌≡◌, ◌∙◌, ap, sym, ◌+◌, suc, ◌++◌, take, drop, length, append_assoc, append-nil, arith}
-use Rattle.c_semantics.specs.Tree
-use Rattle.c_semantics.specs.Views.{branch_of, part_of, stmt_of}
-use Rattle.c_semantics.specs.ViewForms.{stmt_of-Block, stmt_of-For}
+use Rattle.c_semantics.specs.ResolvedTree as Tree
+use Rattle.c_semantics.specs.ResolvedViews.{branch_of, part_of, stmt_of}
+use Rattle.c_semantics.proofs.ViewForms.{stmt_of-Block, stmt_of-For}
 use Rattle.c_meaning.specs.Resolving.{body_declared, body_in, branch_declared, branch_in, part_in, resolved}
 use Rattle.c_meaning.specs.Seen.{behind_stmts}
 use Rattle.c_meaning.proofs.Rows.{body-at, declared-Block, declared-at, kept, resolved-Block, resolved-For, stmts-snoc}

@@ -1,4 +1,4 @@
-use Rattle.c_semantics.specs.LawProofs.{noting_changes_nothing_else}
+use Rattle.c_semantics.proofs.LawProofs.{noting_changes_nothing_else}
 use Rattle.c_semantics.proofs.laws.noting_changes_nothing_else.Goals as goal
 
 pub returns : goal.returns

@@ -1,4 +1,4 @@
-use Rattle.execution.specs.RunLaws.{ends-one}
+use Rattle.execution.proofs.RunLemmas.{ends-one}
 use Rattle.execution.proofs.runs.end_is_one.Goals as goal
 
 pub returns : goal.returns

@@ -1,4 +1,4 @@
-use Rattle.execution.specs.RunLaws.{run-ended}
+use Rattle.execution.proofs.RunLemmas.{run-ended}
 use Rattle.execution.proofs.runs.ends_stay.Goals as goal
 
 pub returns : goal.returns

@@ -1,4 +1,4 @@
-use Rattle.execution.specs.RunLaws.{one-longer}
+use Rattle.execution.proofs.RunLemmas.{one-longer}
 use Rattle.execution.proofs.runs.one_is_longer.Goals as goal
 
 pub returns : goal.returns

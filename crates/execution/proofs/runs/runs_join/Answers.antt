@@ -1,4 +1,4 @@
-use Rattle.execution.specs.RunLaws.{run-+}
+use Rattle.execution.proofs.RunLemmas.{run-+}
 use Rattle.execution.proofs.runs.runs_join.Goals as goal
 
 pub returns : goal.returns

@@ -1,4 +1,4 @@
-use Rattle.execution.specs.TrafficLaws.{extends-refl, extends-input, extends-loose, extends-release, extends-write, extends-check, extends-suspension}
+use Rattle.execution.proofs.TrafficLemmas.{extends-refl, extends-input, extends-loose, extends-release, extends-write, extends-check, extends-suspension}
 use Rattle.execution.proofs.traffic.each_extends.Goals as goal
 
 pub returns : goal.returns

@@ -1,4 +1,4 @@
-use Rattle.execution.specs.TrafficLaws.{extends-trans}
+use Rattle.execution.proofs.TrafficLemmas.{extends-trans}
 use Rattle.execution.proofs.traffic.extends_joins.Goals as goal
 
 pub returns : goal.returns

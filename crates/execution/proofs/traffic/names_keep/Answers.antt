@@ -1,4 +1,4 @@
-use Rattle.execution.specs.TrafficLaws.{named-loose, named-after_loose, named-after_write}
+use Rattle.execution.proofs.TrafficLemmas.{named-loose, named-after_loose, named-after_write}
 use Rattle.execution.proofs.traffic.names_keep.Goals as goal
 
 pub returns : goal.returns

@@ -1,4 +1,4 @@
-use Rattle.execution.specs.RunLaws.{run-+, run-ended}
+use Rattle.execution.proofs.RunLemmas.{run-+, run-ended}
 use Rattle.orbis_core.specs.Ideal.{ideal_step}
 use Rattle.orbis_core.specs.IdealLaws.{run-extends}
 use Rattle.orbis_core.proofs.laws.ideal_runs.Goals as goal

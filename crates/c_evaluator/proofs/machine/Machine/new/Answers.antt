@@ -1,6 +1,6 @@
 use Rattle.std.proofs.Common.{◌≡◌, ◌∙◌, ap, suc, ◌-◌, ◌<◌, length, drop, arith}
-use Rattle.c_semantics.specs.Views.{objects_of}
-use Rattle.c_evaluator.specs.Seen.{placed, started}
+use Rattle.c_semantics.specs.ResolvedViews.{objects_of}
+use Rattle.c_evaluator.specs.MachineStates.{placed, started}
 use Rattle.c_evaluator.proofs.Started.{started-step}
 use Rattle.c_evaluator.proofs.machine.Machine.new.Goals as goal
 

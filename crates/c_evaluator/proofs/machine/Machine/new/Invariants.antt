@@ -1,6 +1,6 @@
 use Rattle.std.proofs.Common.{◌≡◌, ◌≤◌, drop, length}
-use Rattle.c_semantics.specs.Views.{objects_of}
-use Rattle.c_evaluator.specs.Seen.{seen, started}
+use Rattle.c_semantics.specs.ResolvedViews.{objects_of}
+use Rattle.c_evaluator.specs.MachineStates.{seen, started}
 use Rattle.c_evaluator.proofs.machine.Machine.new.Given as goal
 
 abbrev pub invariant-loop-left : goal.invariant-loop-left

@@ -1,14 +1,14 @@
 -- The laws, for proofs here and in the crates above.
 use Rattle.std.proofs.Common.{◌≡◌, ◌≢◌, ℕ, ◌+◌, ◌≤◌, inl, inr, ◌&&◌, ◌==◌, ◌%◌, ◌^◌, Bool, true, false, cond, List, [], ◌∷◌, ◌++◌, Option, Some, None, arith, refl, sym, ◌∙◌, ap, subst}
 use Rattle.execution.specs.Traffic.{Entry, Traffic, Extends, next_of, word_at, without_first, input_word, after_input, loose_word, after_loose, after_release, after_write, after_check, after_suspension}
-use Rattle.execution.specs.TrafficLaws.{extends-refl, extends-trans, extends-input, extends-loose, extends-release, extends-write, extends-check, extends-suspension}
+use Rattle.execution.proofs.TrafficLemmas.{extends-refl, extends-trans, extends-input, extends-loose, extends-release, extends-write, extends-check, extends-suspension}
 use Rattle.regions.specs.declared.rights.Class.{Class}
 use Rattle.c_semantics.specs.declared.tree.Variable.{Variable}
-use Rattle.c_semantics.specs.Tree.{Element, Program}
-use Rattle.c_semantics.specs.States.{Setting, State, End, Ended, Turns, Outcome, GoesOn, EndsAs, state_of, is_in, is_open, is_same_element, element_of, changed, tick, with_traffic, noting, write, releasing}
+use Rattle.c_semantics.specs.ResolvedTree.{Element, Program}
+use Rattle.c_semantics.specs.States.{Setting, State, End, Ended, Turns, Outcome, GoesOn, EndsAs, last_state, is_in, is_open, is_same_element, element_of, changed, tick, with_traffic, noting, writing, releasing}
 use Rattle.c_semantics.specs.Meaning.{Meaning, meaning_of, first_state, outcome_of, mean}
-use Rattle.c_semantics.specs.Relating.{Alike, Holds, Relates, alike-program, keeps-program, keeps-statement}
-use Rattle.c_semantics.specs.Laws.{MoreTurns, FewerTurns, FewerTurnsLessWork, TurnsAreUsed, Later, OnlyAdds, noting_none, IsSameButNotes, NotingChangesNothingElse, with_loose, ReadsNoEntry}
+use Rattle.c_semantics.proofs.Relating.{Alike, Holds, Relates, alike-program, keeps-program, keeps-statement}
+use Rattle.c_semantics.specs.MeaningLaws.{MoreTurns, FewerTurns, FewerTurnsLessWork, TurnsAreUsed, Later, OnlyAdds, noting_none, IsSameButNotes, NotingChangesNothingElse, with_loose, ReadsNoEntry}
 
 -- what is noted where a test holds
 extends-noted : (noted : Bool) (t u : Traffic Element) → Extends t u → Extends t (cond noted u t)
@@ -38,22 +38,22 @@ abbrev Last : State → End → State → Type 0
 Last s e s' = Later s s' × (e ≡ Turns → s'.turns ≡ 0)
 
 -- nothing relates the runs where the first has stopped
-abbrev Nothing_behind : State → State → Type 0
-Nothing_behind s s' = ⊥
+abbrev Nothing_after : State → State → Type 0
+Nothing_after s s' = ⊥
 
 -- the end, or another one where the run goes on
 abbrev end_or : {A : Type 0} → End → Outcome A → End
 end_or other (GoesOn v s) = other
 end_or other (EndsAs e s) = e
 
-one-run : (setting : Setting) → Relates setting.is_loose setting.is_noted setting.is_noted 0 (λ s s'. s ≡ s') Nothing_behind Later Last
+one-run : (setting : Setting) → Relates setting.is_loose setting.is_noted setting.is_noted 0 (λ s s'. s ≡ s') Nothing_after Later Last
 one-run setting = record {
   turns = λ s s' r. let e : s.turns ≡ s'.turns = ap (λ u. u.turns) r in omega (arith, e);
   same_memory = λ s s' r x i. ap (λ u. u.memory x i) r;
   same_input = λ s s' r. ap (λ u. input_word u.traffic) r;
   same_loose = λ s s' r x i l. ap (λ u. loose_word is_same_element (element_of x i) u.traffic) r;
   tick_too = λ s s' r. ap (tick setting) r;
-  write_too = λ s s' r x i word. ap (write setting x i word) r;
+  write_too = λ s s' r x i word. ap (writing setting x i word) r;
   input_too = λ s s' r. ap (λ u. with_traffic (after_input u.traffic) u) r;
   loose_too = λ s s' r x i word l e. ap (λ u. with_traffic (after_loose u.traffic) u) r;
   release_too = λ s s' r word. ap (releasing word) r;
@@ -89,23 +89,23 @@ one-run setting = record {
 -- TurnsAreUsed
 pub turns_are_used : TurnsAreUsed
 turns_are_used setting program input loose turns state e =
-    go (outcome_of setting program input loose turns) e (keeps-program setting.is_loose setting.is_noted setting.is_noted 0 (λ s s'. s ≡ s') Nothing_behind Later Last (one-run setting) program.functions program.main (first_state program input loose turns))
+    go (outcome_of setting program input loose turns) e (keeps-program setting.is_loose setting.is_noted setting.is_noted 0 (λ s s'. s ≡ s') Nothing_after Later Last (one-run setting) program.functions program.main (first_state program input loose turns))
   where
     go : (o : Outcome ℕ) → o ≡ EndsAs Turns state → Holds {A = ℕ} (λ v t u. Later t u) Last (first_state program input loose turns) o → state.turns ≡ 0
     go (GoesOn v t) h k = absurd (grind (arith, h))
     go (EndsAs end t) h k =
         let same_end : end ≡ Turns = ap (end_or Ended) h in
-        let same : t ≡ state = ap state_of h in
+        let same : t ≡ state = ap last_state h in
         subst (λ u. u.turns ≡ 0) same (k.1 same_end)
 
 -- the state that a run comes to is a later one
-state-later : {A : Type 0} (s : State) (o : Outcome A) → Holds (λ v t u. Later t u) Last s o → Later s (state_of o)
+state-later : {A : Type 0} (s : State) (o : Outcome A) → Holds (λ v t u. Later t u) Last s o → Later s (last_state o)
 state-later s (GoesOn v t) h = h
 state-later s (EndsAs e t) h = h.0
 
 pub only_adds : OnlyAdds
 only_adds setting functions statement state =
-    state-later state _ (keeps-statement setting.is_loose setting.is_noted setting.is_noted 0 (λ s s'. s ≡ s') Nothing_behind Later Last (one-run setting) functions statement state)
+    state-later state _ (keeps-statement setting.is_loose setting.is_noted setting.is_noted 0 (λ s s'. s ≡ s') Nothing_after Later Last (one-run setting) functions statement state)
 
 -- the second run has so many turns more
 abbrev With_more : ℕ → State → State → Type 0
@@ -116,13 +116,13 @@ abbrev Gone_on : State → State → Type 0
 Gone_on s s' = Extends s.traffic s'.traffic × (s.work ≤ s'.work)
 
 more-turns : (setting : Setting) (more : ℕ) → Relates setting.is_loose setting.is_noted setting.is_noted more (With_more more) Gone_on Later Last
-more-turns setting more = let one : Relates setting.is_loose setting.is_noted setting.is_noted 0 (λ s s'. s ≡ s') Nothing_behind Later Last = one-run setting in record {
+more-turns setting more = let one : Relates setting.is_loose setting.is_noted setting.is_noted 0 (λ s s'. s ≡ s') Nothing_after Later Last = one-run setting in record {
   turns = λ s s' r. ap (λ u. u.turns) r;
   same_memory = λ s s' r x i. sym (ap (λ u. u.memory x i) r);
   same_input = λ s s' r. sym (ap (λ u. input_word u.traffic) r);
   same_loose = λ s s' r x i l. sym (ap (λ u. loose_word is_same_element (element_of x i) u.traffic) r);
   tick_too = λ s s' r. ap (tick setting) r;
-  write_too = λ s s' r x i word. ap (write setting x i word) r;
+  write_too = λ s s' r x i word. ap (writing setting x i word) r;
   input_too = λ s s' r. ap (λ u. with_traffic (after_input u.traffic) u) r;
   loose_too = λ s s' r x i word l e. ap (λ u. with_traffic (after_loose u.traffic) u) r;
   release_too = λ s s' r word. ap (releasing word) r;
@@ -208,8 +208,8 @@ noted-same : (noted : Bool) (t n u : Traffic Element) → SameTraffic t u → Sa
 noted-same true t n u h k = k
 noted-same false t n u h k = h
 
-not-noted : (is_loose : Class → Bool) → Relates is_loose true false 0 SameSeen Nothing_behind Later Last
-not-noted is_loose = let one : Relates is_loose false false 0 (λ s s'. s ≡ s') Nothing_behind Later Last = one-run (noting_none is_loose) in record {
+not-noted : (is_loose : Class → Bool) → Relates is_loose true false 0 SameSeen Nothing_after Later Last
+not-noted is_loose = let one : Relates is_loose false false 0 (λ s s'. s ≡ s') Nothing_after Later Last = one-run (noting_none is_loose) in record {
   turns = λ s s' r. omega (arith, r.turns);
   same_memory = λ s s' r x i. r.memory x i;
   same_input = λ s s' r. ap next_of r.traffic.input;
@@ -310,7 +310,7 @@ same-seen s = record {
 
 pub noting_changes_nothing_else : NotingChangesNothingElse
 noting_changes_nothing_else is_loose program input loose turns =
-    go _ _ (alike-program is_loose true false 0 SameSeen Nothing_behind Later Last (not-noted is_loose) program.functions program.main (first_state program input loose turns) (first_state program input loose turns) (same-seen (first_state program input loose turns)))
+    go _ _ (alike-program is_loose true false 0 SameSeen Nothing_after Later Last (not-noted is_loose) program.functions program.main (first_state program input loose turns) (first_state program input loose turns) (same-seen (first_state program input loose turns)))
   where
     from : (end end' : End) (s s' : State) → end ≡ end' → SameSeen s s' → IsSameButNotes (record { end = end; work = s.work; traffic = s.traffic }) (record { end = end'; work = s'.work; traffic = s'.traffic })
     from end end' s s' e r = record {
@@ -322,7 +322,7 @@ noting_changes_nothing_else is_loose program input loose turns =
       releases = r.traffic.releases;
     }
 
-    go : (o o' : Outcome ℕ) → Alike SameSeen Nothing_behind o o' → IsSameButNotes (meaning_of o) (meaning_of o')
+    go : (o o' : Outcome ℕ) → Alike SameSeen Nothing_after o o' → IsSameButNotes (meaning_of o) (meaning_of o')
     go (GoesOn v s) (GoesOn v' s') a = from Ended Ended s s' refl a.1
     go (GoesOn v s) (EndsAs e' s') a = absurd a
     go (EndsAs e s) (GoesOn v' s') a = absurd a.1
@@ -354,14 +354,14 @@ cleared s = record s { traffic = record s.traffic { loose = [] } }
 abbrev Differ_in_loose : State → State → Type 0
 Differ_in_loose s s' = cleared s ≡ cleared s'
 
-no-loose : (setting : Setting) → ((class : Class) → setting.is_loose class ≡ false) → Relates setting.is_loose setting.is_noted setting.is_noted 0 Differ_in_loose Nothing_behind Untouched Untouched_at
+no-loose : (setting : Setting) → ((class : Class) → setting.is_loose class ≡ false) → Relates setting.is_loose setting.is_noted setting.is_noted 0 Differ_in_loose Nothing_after Untouched Untouched_at
 no-loose setting no_class = record {
   turns = λ s s' r. let e : s.turns ≡ s'.turns = ap (λ u. u.turns) r in omega (arith, e);
   same_memory = λ s s' r x i. ap (λ u. u.memory x i) r;
   same_input = λ s s' r. ap (λ u. input_word u.traffic) r;
   same_loose = λ s s' r x i l. absurd (never-loose setting.is_loose no_class x.class l);
   tick_too = λ s s' r. ap (tick setting) r;
-  write_too = λ s s' r x i word. write-cleared s x i word ∙ ap (write setting x i word) r ∙ sym (write-cleared s' x i word);
+  write_too = λ s s' r x i word. write-cleared s x i word ∙ ap (writing setting x i word) r ∙ sym (write-cleared s' x i word);
   input_too = λ s s' r. ap (λ u. with_traffic (after_input u.traffic) u) r;
   loose_too = λ s s' r x i word l e. absurd (never-loose setting.is_loose no_class x.class l);
   release_too = λ s s' r word. ap (releasing word) r;
@@ -394,7 +394,7 @@ no-loose setting no_class = record {
   longer_end = λ s a b e h k. h;
 }
   where
-    write-cleared : (s : State) (x : Variable) (i word : ℕ) → cleared (write setting x i word s) ≡ write setting x i word (cleared s)
+    write-cleared : (s : State) (x : Variable) (i word : ℕ) → cleared (writing setting x i word s) ≡ writing setting x i word (cleared s)
     write-cleared s x i word = go (setting.is_noted && is_in is_open x.class)
       where
         go : (b : Bool) → cleared (record s { memory = changed s.memory x.token i word; traffic = cond b (after_write (element_of x i) word s.traffic) s.traffic }) ≡ record (cleared s) { memory = changed s.memory x.token i word; traffic = cond b (after_write (element_of x i) word (cleared s).traffic) (cleared s).traffic }
@@ -410,18 +410,18 @@ no-loose setting no_class = record {
     suspension-cleared false s = refl
 
 untouched : (setting : Setting) → ((class : Class) → setting.is_loose class ≡ false) → (program : Program) (input : List ℕ) (loose : List (Entry Element)) (turns : ℕ) →
-    Untouched (first_state program input loose turns) (state_of (outcome_of setting program input loose turns))
+    Untouched (first_state program input loose turns) (last_state (outcome_of setting program input loose turns))
 untouched setting no_class program input loose turns =
-    go (outcome_of setting program input loose turns) (keeps-program setting.is_loose setting.is_noted setting.is_noted 0 Differ_in_loose Nothing_behind Untouched Untouched_at (no-loose setting no_class) program.functions program.main (first_state program input loose turns))
+    go (outcome_of setting program input loose turns) (keeps-program setting.is_loose setting.is_noted setting.is_noted 0 Differ_in_loose Nothing_after Untouched Untouched_at (no-loose setting no_class) program.functions program.main (first_state program input loose turns))
   where
-    go : (o : Outcome ℕ) → Holds {A = ℕ} (λ v t u. Untouched t u) Untouched_at (first_state program input loose turns) o → Untouched (first_state program input loose turns) (state_of o)
+    go : (o : Outcome ℕ) → Holds {A = ℕ} (λ v t u. Untouched t u) Untouched_at (first_state program input loose turns) o → Untouched (first_state program input loose turns) (last_state o)
     go (GoesOn v t) h = h
     go (EndsAs e t) h = h
 
 abbrev meaning_at : End → State → Meaning
 meaning_at end s = record { end = end; work = s.work; traffic = s.traffic }
 
-meaning-traffic : (o : Outcome ℕ) → (meaning_of o).traffic ≡ (state_of o).traffic
+meaning-traffic : (o : Outcome ℕ) → (meaning_of o).traffic ≡ (last_state o).traffic
 meaning-traffic (GoesOn v t) = refl
 meaning-traffic (EndsAs e t) = refl
 
@@ -431,7 +431,7 @@ reads_no_entry = record {
   whatever = λ setting no_class program input loose turns.
       go loose (outcome_of setting program input loose turns) (outcome_of setting program input [] turns)
       (untouched setting no_class program input loose turns).loose
-      (alike-program setting.is_loose setting.is_noted setting.is_noted 0 Differ_in_loose Nothing_behind Untouched Untouched_at (no-loose setting no_class) program.functions program.main (first_state program input loose turns) (first_state program input [] turns) refl);
+      (alike-program setting.is_loose setting.is_noted setting.is_noted 0 Differ_in_loose Nothing_after Untouched Untouched_at (no-loose setting no_class) program.functions program.main (first_state program input loose turns) (first_state program input [] turns) refl);
 }
   where
     whole : (loose : List (Entry Element)) (end end' : End) (s s' : State) → end ≡ end' → s.traffic.loose ≡ loose → Differ_in_loose s s' →
@@ -439,7 +439,7 @@ reads_no_entry = record {
     whole loose end end' s s' e kept r =
         ap (λ left. with_loose left (meaning_at end s)) kept ∙ ap (λ u. with_loose loose (meaning_at end u)) r ∙ ap (λ f. with_loose loose (meaning_at f s')) e
 
-    go : (loose : List (Entry Element)) (o o' : Outcome ℕ) → (state_of o).traffic.loose ≡ loose → Alike Differ_in_loose Nothing_behind o o' → meaning_of o ≡ with_loose loose (meaning_of o')
+    go : (loose : List (Entry Element)) (o o' : Outcome ℕ) → (last_state o).traffic.loose ≡ loose → Alike Differ_in_loose Nothing_after o o' → meaning_of o ≡ with_loose loose (meaning_of o')
     go loose (GoesOn v s) (GoesOn v' s') kept a = whole loose Ended Ended s s' refl kept a.1
     go loose (GoesOn v s) (EndsAs e' s') kept a = absurd a
     go loose (EndsAs e s) (GoesOn v' s') kept a = absurd a.1

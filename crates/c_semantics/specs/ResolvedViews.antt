@@ -10,7 +10,7 @@ use Rattle.c_semantics.specs.declared.tree.Variable.{Variable}
 use Rattle.c_semantics.specs.declared.tree.Function.{Function}
 use Rattle.c_semantics.specs.declared.tree.Object.{Object}
 use Rattle.c_semantics.specs.declared.tree.Program.{Program}
-use Rattle.c_semantics.specs.Tree
+use Rattle.c_semantics.specs.ResolvedTree as Tree
 
 -- expressions as arguments
 abbrev pub arguments_of : List Tree.Expr → Tree.Arguments
@@ -48,9 +48,9 @@ in_turn [] = Tree.Nothing
 in_turn (s ∷ ss) = Tree.Then s (in_turn ss)
 
 -- a statement that need not be there
-abbrev pub optional : Option Tree.Stmt → Tree.Stmt
-optional None = Tree.Nothing
-optional (Some s) = s
+abbrev pub stmt_or_nothing : Option Tree.Stmt → Tree.Stmt
+stmt_or_nothing None = Tree.Nothing
+stmt_or_nothing (Some s) = s
 
 abbrev pub stmt_step : Stmt-F Tree.Stmt → Tree.Stmt
 stmt_step Stmt-F.Empty = Tree.Empty
@@ -65,9 +65,9 @@ stmt_step Stmt-F.Check = Tree.Check
 stmt_step (Stmt-F.Return value) = Tree.Return (part_of value)
 stmt_step Stmt-F.Break = Tree.Break
 stmt_step Stmt-F.Continue = Tree.Continue
-stmt_step (Stmt-F.If test body other) = Tree.If (expr_of test) body (optional other)
+stmt_step (Stmt-F.If test body other) = Tree.If (expr_of test) body (stmt_or_nothing other)
 stmt_step (Stmt-F.While test body) = Tree.While (expr_of test) body
-stmt_step (Stmt-F.For first test step body) = Tree.For (optional first) (part_of test) (optional step) body
+stmt_step (Stmt-F.For first test step body) = Tree.For (stmt_or_nothing first) (part_of test) (stmt_or_nothing step) body
 
 -- a statement
 abbrev pub stmt_of : Stmt → Tree.Stmt

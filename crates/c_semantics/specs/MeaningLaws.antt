@@ -2,8 +2,8 @@
 use Rattle.std.specs.Prelude.{◌≡◌, ◌≢◌, ℕ, ◌+◌, ◌≤◌, Bool, true, false, List, []}
 use Rattle.execution.specs.Traffic.{Entry, Extends}
 use Rattle.regions.specs.declared.rights.Class.{Class}
-use Rattle.c_semantics.specs.Tree.{Element, Stmt, Function, Program}
-use Rattle.c_semantics.specs.States.{Setting, State, Turns, EndsAs, state_of}
+use Rattle.c_semantics.specs.ResolvedTree.{Element, Stmt, Function, Program}
+use Rattle.c_semantics.specs.States.{Setting, State, Turns, EndsAs, last_state}
 use Rattle.c_semantics.specs.Meaning.{Meaning, meaning, calls_of, outcome_of, mean}
 
 -- more turns change nothing once the run ended
@@ -34,7 +34,7 @@ pub record Later (earlier later : State) : Type 0 where
 -- whatever a statement does, no count falls, bytes and writes are added at the end, and input and loose words are taken from the front
 abbrev pub OnlyAdds : Type 0
 OnlyAdds = (setting : Setting) (functions : List Function) (statement : Stmt) (state : State) →
-    Later state (state_of (meaning setting (calls_of setting functions) statement state))
+    Later state (last_state (meaning setting (calls_of setting functions) statement state))
 
 -- the program of a setting with no loose class, with all noted or not
 abbrev pub noting_all : (Class → Bool) → Setting

@@ -5,9 +5,9 @@ use Rattle.regions.specs.declared.rights.Class.{Class}
 use Rattle.aegis_num.specs.declared.operators.BinaryOp.{BinaryOp}
 use Rattle.aegis_num.specs.Operators.{truth, unary, binary, traps}
 use Rattle.c_semantics.specs.declared.tree.Variable.{Variable}
-use Rattle.c_semantics.specs.Tree.{Expr, Number, Scalar, Indexed, Called, Input, Unary, Binary, Both, Either, Arguments, NoArguments, Argument, Stmt, Nothing, Then, Empty, Block, Local, Assign, Store, Call, Suspend, Release, Check, Return, Break, Continue, If, While, For, Function}
-use Rattle.c_semantics.specs.States.{Setting, State, End, Index, Divide, Starved, Turns, Outcome, GoesOn, EndsAs, then, choose, is_same_element, is_in, element_of, kept, loosely, tick, with_traffic, noting, read, write, within, applied, taking_input, releasing, begin_turn}
-use Rattle.c_semantics.specs.Meaning.{Flow, Next, Broke, Continued, Returned, Turn, Again, Leaves, Calls, value, values, value_or_zero, condition, behind, behind_body, turn, behind_turn, iterate, loop, next, meaning, result_of, given, called, with_function, no_calls, calls_from, calls_of}
+use Rattle.c_semantics.specs.ResolvedTree.{Expr, Number, Scalar, Indexed, Called, Input, Unary, Binary, Both, Either, Arguments, NoArguments, Argument, Stmt, Nothing, Then, Empty, Block, Local, Assign, Store, Call, Suspend, Release, Check, Return, Break, Continue, If, While, For, Function}
+use Rattle.c_semantics.specs.States.{Setting, State, End, Index, Divide, Starved, Turns, Outcome, GoesOn, EndsAs, then, choose, is_same_element, is_in, element_of, kept_word, loosely, tick, with_traffic, noting, reading, writing, within, applied, taking_input, releasing, begin_turn}
+use Rattle.c_semantics.specs.Meaning.{Flow, Completed, Broke, Continued, Returned, Turn, Again, Leaves, Calls, value, values, value_or_zero, condition, after_statement, after_body, turn, after_turn, iterate, loop, completes, meaning, result_of, given, function_meaning, with_function, no_calls, calls_from, calls_of}
 
 -- how two outcomes are alike: the same value or end and states in relation, or the first has used its turns and the second has gone on from there
 abbrev pub Alike : {A : Type 0} → (State → State → Type 0) → (State → State → Type 0) → Outcome A → Outcome A → Type 0
@@ -32,7 +32,7 @@ pub record Relates (is_loose : Class → Bool) (noted noted' : Bool) (more : ℕ
       loose_word is_same_element (element_of x i) s.traffic ≡ loose_word is_same_element (element_of x i) s'.traffic
   pub tick_too : (s s' : State) → R s s' → R (tick (record { is_loose = is_loose; is_noted = noted }) s) (tick (record { is_loose = is_loose; is_noted = noted' }) s')
   pub write_too : (s s' : State) → R s s' → (x : Variable) (i word : ℕ) →
-      R (write (record { is_loose = is_loose; is_noted = noted }) x i word s) (write (record { is_loose = is_loose; is_noted = noted' }) x i word s')
+      R (writing (record { is_loose = is_loose; is_noted = noted }) x i word s) (writing (record { is_loose = is_loose; is_noted = noted' }) x i word s')
   pub input_too : (s s' : State) → R s s' → R (with_traffic (after_input s.traffic) s) (with_traffic (after_input s'.traffic) s')
   pub loose_too : (s s' : State) → R s s' → (x : Variable) (i word : ℕ) → is_in is_loose x.class ≡ true → loose_word is_same_element (element_of x i) s'.traffic ≡ Some word →
       R (with_traffic (after_loose s.traffic) s) (with_traffic (after_loose s'.traffic) s')
@@ -48,7 +48,7 @@ pub record Relates (is_loose : Class → Bool) (noted noted' : Bool) (more : ℕ
   pub joins : (a b c : State) → P a b → P b c → P a c
   pub lowers : (s s' : State) → P s s' → s'.turns ≤ s.turns
   pub ticks : (s : State) → P s (tick (record { is_loose = is_loose; is_noted = noted' }) s)
-  pub writes : (s : State) (x : Variable) (i word : ℕ) → P s (write (record { is_loose = is_loose; is_noted = noted' }) x i word s)
+  pub writes : (s : State) (x : Variable) (i word : ℕ) → P s (writing (record { is_loose = is_loose; is_noted = noted' }) x i word s)
   pub inputs : (s : State) → P s (with_traffic (after_input s.traffic) s)
   pub takes : (s : State) (x : Variable) (i word : ℕ) → is_in is_loose x.class ≡ true → loose_word is_same_element (element_of x i) s.traffic ≡ Some word →
       P s (with_traffic (after_loose s.traffic) s)
@@ -88,9 +88,9 @@ module _ (is_loose : Class → Bool) (noted noted' : Bool) (more : ℕ) (R C P :
   holds-then D E s (EndsAs e t) h p q = p
 
   -- where the first has no turn left, it stays behind whatever the second does
-  behind-all : {A : Type 0} (s t : State) (o : Outcome A) → C s t → Holds {A = A} Plain F t o → Alike R C (EndsAs Turns s) o
-  behind-all s t (GoesOn v u) c h = (refl, laws.longer s t u c h)
-  behind-all s t (EndsAs e u) c h = inr (refl, laws.longer_end s t u e c h)
+  passed-all : {A : Type 0} (s t : State) (o : Outcome A) → C s t → Holds {A = A} Plain F t o → Alike R C (EndsAs Turns s) o
+  passed-all s t (GoesOn v u) c h = (refl, laws.longer s t u c h)
+  passed-all s t (EndsAs e u) c h = inr (refl, laws.longer_end s t u e c h)
 
   pair-then : {A B : Type 0} (f f' : State → Outcome A) (h h' : A → State → Outcome B) →
       Pair A Plain f f' → ((v : A) → Pair B Plain (h v) (h' v)) → Pair B Plain (λ s. then (f s) h) (λ s. then (f' s) h')
@@ -106,7 +106,7 @@ module _ (is_loose : Class → Bool) (noted noted' : Bool) (more : ℕ) (R C P :
       go : (o o' : Outcome A) → Alike R C o o' → Alike R C (then o h) (then o' h')
       go (GoesOn v t) (GoesOn v' t') a = subst (λ w. Alike R C (h v t) (h' w t')) a.0 ((q v).alike t t' a.1)
       go (GoesOn v t) (EndsAs e' t') a = absurd a
-      go (EndsAs e t) (GoesOn v' t') a = subst (λ w. Alike R C (EndsAs w t) (h' v' t')) (sym a.0) (behind-all t t' (h' v' t') a.1 ((q v').keeps t'))
+      go (EndsAs e t) (GoesOn v' t') a = subst (λ w. Alike R C (EndsAs w t) (h' v' t')) (sym a.0) (passed-all t t' (h' v' t') a.1 ((q v').keeps t'))
       go (EndsAs e t) (EndsAs e' t') a = a
 
   pair-tick : {A : Type 0} (f f' : State → Outcome A) → Pair A Plain f f' → Pair A Plain (λ s. f (tick first s)) (λ s. f' (tick second s))
@@ -131,7 +131,7 @@ module _ (is_loose : Class → Bool) (noted noted' : Bool) (more : ℕ) (R C P :
   pair-applied : (at : ℕ) (op : BinaryOp) (v w : ℕ) → Pair ℕ Plain (applied at op v w) (applied at op v w)
   pair-applied at op v w = pair-choose (traps op w) _ _ _ _ (pair-ends (Divide at) (λ e. grind arith)) (pair-goes (binary op v w))
 
-  pair-kept : (x : Variable) (i : ℕ) → Pair ℕ Plain (kept x i) (kept x i)
+  pair-kept : (x : Variable) (i : ℕ) → Pair ℕ Plain (kept_word x i) (kept_word x i)
   pair-kept x i = record { alike = λ s s' r. (laws.same_memory s s' r x.token i, r); keeps = λ s'. laws.stays s' }
 
   -- a loose element
@@ -152,63 +152,63 @@ module _ (is_loose : Class → Bool) (noted noted' : Bool) (more : ℕ) (R C P :
       keep s' None e = laws.at_once s' Starved (λ h. grind arith)
       keep s' (Some w) e = laws.takes s' x i w loose e
 
-  pair-read : (x : Variable) (i : ℕ) → Pair ℕ Plain (read first x i) (read second x i)
+  pair-read : (x : Variable) (i : ℕ) → Pair ℕ Plain (reading first x i) (reading second x i)
   pair-read x i = go (is_in is_loose x.class) refl
     where
-      go : (b : Bool) → is_in is_loose x.class ≡ b → Pair ℕ Plain (choose b (taken x i) (kept x i)) (choose b (taken x i) (kept x i))
+      go : (b : Bool) → is_in is_loose x.class ≡ b → Pair ℕ Plain (choose b (taken x i) (kept_word x i)) (choose b (taken x i) (kept_word x i))
       go true e = pair-taken x i e
       go false e = pair-kept x i
 
   pair-input : Pair ℕ Plain taking_input taking_input
   pair-input = record { alike = λ s s' r. (laws.same_input s s' r, laws.input_too s s' r); keeps = λ s'. laws.inputs s' }
 
-  pair-write : (x : Variable) (i word : ℕ) → Pair Flow Plain (λ s. next (write first x i word s)) (λ s. next (write second x i word s))
+  pair-write : (x : Variable) (i word : ℕ) → Pair Flow Plain (λ s. completes (writing first x i word s)) (λ s. completes (writing second x i word s))
   pair-write x i word = record {
     alike = λ s s' r. (refl, laws.write_too s s' r x i word);
     keeps = λ s'. laws.writes s' x i word;
   }
 
-  pair-release : (word : ℕ) → Pair Flow Plain (λ s. next (releasing word s)) (λ s. next (releasing word s))
+  pair-release : (word : ℕ) → Pair Flow Plain (λ s. completes (releasing word s)) (λ s. completes (releasing word s))
   pair-release word = record {
     alike = λ s s' r. (refl, laws.release_too s s' r word);
     keeps = λ s'. laws.releases s' word;
   }
 
-  pair-check : Pair Flow Plain (λ s. next (noting first after_check s)) (λ s. next (noting second after_check s))
+  pair-check : Pair Flow Plain (λ s. completes (noting first after_check s)) (λ s. completes (noting second after_check s))
   pair-check = record {
     alike = λ s s' r. (refl, laws.check_too s s' r);
     keeps = λ s'. laws.checks s';
   }
 
-  pair-suspension : Pair Flow Plain (λ s. next (noting first after_suspension s)) (λ s. next (noting second after_suspension s))
+  pair-suspension : Pair Flow Plain (λ s. completes (noting first after_suspension s)) (λ s. completes (noting second after_suspension s))
   pair-suspension = record {
     alike = λ s s' r. (refl, laws.suspension_too s s' r);
     keeps = λ s'. laws.suspends s';
   }
 
-  pair-behind : (f f' : State → Outcome Flow) (flow : Flow) → Pair Flow Plain f f' → Pair Flow Plain (behind f flow) (behind f' flow)
-  pair-behind f f' Next p = p
-  pair-behind f f' Broke p = pair-goes Broke
-  pair-behind f f' Continued p = pair-goes Continued
-  pair-behind f f' (Returned v) p = pair-goes (Returned v)
+  pair-after_statement : (f f' : State → Outcome Flow) (flow : Flow) → Pair Flow Plain f f' → Pair Flow Plain (after_statement f flow) (after_statement f' flow)
+  pair-after_statement f f' Completed p = p
+  pair-after_statement f f' Broke p = pair-goes Broke
+  pair-after_statement f f' Continued p = pair-goes Continued
+  pair-after_statement f f' (Returned v) p = pair-goes (Returned v)
 
   -- A turn that goes on to another one has taken a turn.
   abbrev Lower : State → State → Type 0
   Lower s s' = P s s' × (s'.turns < s.turns)
 
-  abbrev Behind : Turn → State → State → Type 0
-  Behind Again s s' = Lower s s'
-  Behind (Leaves flow) s s' = P s s'
+  abbrev Passed : Turn → State → State → Type 0
+  Passed Again s s' = Lower s s'
+  Passed (Leaves flow) s s' = P s s'
 
   -- a turn that has begun
   abbrev Begun : {A : Type 0} → A → State → State → Type 0
   Begun v s s' = Lower s s'
 
-  pair-behind_body : (f f' : State → Outcome Flow) (flow : Flow) → Pair Flow Plain f f' → Pair Turn Plain (behind_body f flow) (behind_body f' flow)
-  pair-behind_body f f' Next p = pair-then _ _ _ _ p (λ flow. pair-goes Again)
-  pair-behind_body f f' Continued p = pair-then _ _ _ _ p (λ flow. pair-goes Again)
-  pair-behind_body f f' Broke p = pair-goes (Leaves Next)
-  pair-behind_body f f' (Returned v) p = pair-goes (Leaves (Returned v))
+  pair-after_body : (f f' : State → Outcome Flow) (flow : Flow) → Pair Flow Plain f f' → Pair Turn Plain (after_body f flow) (after_body f' flow)
+  pair-after_body f f' Completed p = pair-then _ _ _ _ p (λ flow. pair-goes Again)
+  pair-after_body f f' Continued p = pair-then _ _ _ _ p (λ flow. pair-goes Again)
+  pair-after_body f f' Broke p = pair-goes (Leaves Completed)
+  pair-after_body f f' (Returned v) p = pair-goes (Leaves (Returned v))
 
   -- a turn that begins, and what it goes on with
   abbrev begins_with : Setting → (State → Outcome Turn) → State → Outcome Turn
@@ -235,7 +235,7 @@ module _ (is_loose : Class → Bool) (noted noted' : Bool) (more : ℕ) (R C P :
       go s s' r zero (suc left') e e' =
           let more_turns : s'.turns ≡ s.turns + more = laws.turns s s' r in
           let t : State = tick second (record s' { turns = left' }) in
-          behind-all s t (rest' t) (laws.longer s s' t (laws.stopped s s' r e (omega (arith, more_turns, e, e'))) (laws.begins s' left' e')) (p.keeps t)
+          passed-all s t (rest' t) (laws.longer s s' t (laws.stopped s s' r e (omega (arith, more_turns, e, e'))) (laws.begins s' left' e')) (p.keeps t)
       go s s' r (suc left) zero e e' = let more_turns : s'.turns ≡ s.turns + more = laws.turns s s' r in absurd (omega (arith, more_turns, e, e'))
       go s s' r (suc left) (suc left') e e' =
           p.alike (tick first (record s { turns = left })) (tick second (record s' { turns = left' })) (laws.begin_too s s' r left left' e e')
@@ -247,63 +247,63 @@ module _ (is_loose : Class → Bool) (noted noted' : Bool) (more : ℕ) (R C P :
       go s' (GoesOn v t) k = h v s' t k
       go s' (EndsAs e t) k = k
 
-  plainly : (v : Turn) (s s' : State) → Behind v s s' → P s s'
+  plainly : (v : Turn) (s s' : State) → Passed v s s' → P s s'
   plainly Again s s' h = h.0
   plainly (Leaves flow) s s' h = h
 
-  begun : (v : Turn) (s s' : State) → Lower s s' → Behind v s s'
+  begun : (v : Turn) (s s' : State) → Lower s s' → Passed v s s'
   begun Again s s' h = h
   begun (Leaves flow) s s' h = h.0
 
   -- a whole turn, with a test and a body and a step
   pair-turn : (test test' : State → Outcome ℕ) (body body' step step' : State → Outcome Flow) →
-      Pair ℕ Plain test test' → Pair Flow Plain body body' → Pair Flow Plain step step' → Pair Turn Behind (turn first test body step) (turn second test' body' step')
+      Pair ℕ Plain test test' → Pair Flow Plain body body' → Pair Flow Plain step step' → Pair Turn Passed (turn first test body step) (turn second test' body' step')
   pair-turn test test' body body' step step' p q r = record {
-    alike = (pair-then test test' (decide first body step) (decide second body' step') p (λ v. weaken Behind Plain plainly _ _ (decides v))).alike;
-    keeps = λ s'. holds-then Plain Behind s' (test' s') (decide second body' step') (p.keeps s') (λ v t h. from s' t (decide second body' step' v t) h ((decides v).keeps t));
+    alike = (pair-then test test' (decide first body step) (decide second body' step') p (λ v. weaken Passed Plain plainly _ _ (decides v))).alike;
+    keeps = λ s'. holds-then Plain Passed s' (test' s') (decide second body' step') (p.keeps s') (λ v t h. from s' t (decide second body' step' v t) h ((decides v).keeps t));
   }
     where
       decide : Setting → (State → Outcome Flow) → (State → Outcome Flow) → ℕ → State → Outcome Turn
-      decide setting b st v s = choose (v == 0) (GoesOn (Leaves Next)) (begins_with setting (λ s'. then (b s') (behind_body st))) s
+      decide setting b st v s = choose (v == 0) (GoesOn (Leaves Completed)) (begins_with setting (λ s'. then (b s') (after_body st))) s
 
-      from : (a b : State) (o : Outcome Turn) → P a b → Holds Behind F b o → Holds Behind F a o
+      from : (a b : State) (o : Outcome Turn) → P a b → Holds Passed F b o → Holds Passed F a o
       from a b (GoesOn Again c) h k = (laws.joins a b c h k.0, (let below : b.turns ≤ a.turns = laws.lowers a b h in omega (arith, below, k.1)))
       from a b (GoesOn (Leaves flow) c) h k = laws.joins a b c h k
       from a b (EndsAs e c) h k = laws.ends a b c e h k
 
-      decides : (v : ℕ) → Pair Turn Behind (decide first body step v) (decide second body' step' v)
+      decides : (v : ℕ) → Pair Turn Passed (decide first body step v) (decide second body' step' v)
       decides v = go (v == 0)
         where
-          go : (b : Bool) → Pair Turn Behind (choose b (GoesOn (Leaves Next)) (begins_with first (λ s. then (body s) (behind_body step)))) (choose b (GoesOn (Leaves Next)) (begins_with second (λ s. then (body' s) (behind_body step'))))
+          go : (b : Bool) → Pair Turn Passed (choose b (GoesOn (Leaves Completed)) (begins_with first (λ s. then (body s) (after_body step)))) (choose b (GoesOn (Leaves Completed)) (begins_with second (λ s. then (body' s) (after_body step'))))
           go true = record { alike = λ s s' r. (refl, r); keeps = λ s'. laws.stays s' }
-          go false = weaken Begun Behind begun _ _ (pair-begins _ _ (pair-then body body' _ _ q (λ flow. pair-behind_body step step' flow r)))
+          go false = weaken Begun Passed begun _ _ (pair-begins _ _ (pair-then body body' _ _ q (λ flow. pair-after_body step step' flow r)))
 
-  keep-iterate : (one' : State → Outcome Turn) → ((s' : State) → Holds Behind F s' (one' s')) → (rounds : ℕ) (s' : State) → s'.turns < rounds →
+  keep-iterate : (one' : State → Outcome Turn) → ((s' : State) → Holds Passed F s' (one' s')) → (rounds : ℕ) (s' : State) → s'.turns < rounds →
       Holds {A = Flow} Plain F s' (iterate rounds one' s')
   keep-iterate one' p zero s' below = absurd (omega arith)
   keep-iterate one' p (suc rounds) s' below = go (one' s') (p s') (keep-iterate one' p rounds)
     where
-      go : (o' : Outcome Turn) → Holds Behind F s' o' → ((t : State) → t.turns < rounds → Holds {A = Flow} Plain F t (iterate rounds one' t)) →
-          Holds Plain F s' (then o' (behind_turn (iterate rounds one')))
+      go : (o' : Outcome Turn) → Holds Passed F s' o' → ((t : State) → t.turns < rounds → Holds {A = Flow} Plain F t (iterate rounds one' t)) →
+          Holds Plain F s' (then o' (after_turn (iterate rounds one')))
       go (GoesOn Again t) k later = holds-from s' t (iterate rounds one' t) k.0 (later t (omega (arith, k.1)))
       go (GoesOn (Leaves flow) t) k later = k
       go (EndsAs e t) k later = k
 
   -- the flow that a turn leaves a loop with
   abbrev flow_of : Turn → Flow
-  flow_of Again = Next
+  flow_of Again = Completed
   flow_of (Leaves flow) = flow
 
-  pair-iterate : (one one' : State → Outcome Turn) → Pair Turn Behind one one' → (rounds : ℕ) (s s' : State) → R s s' → s.turns < rounds →
+  pair-iterate : (one one' : State → Outcome Turn) → Pair Turn Passed one one' → (rounds : ℕ) (s s' : State) → R s s' → s.turns < rounds →
       Alike R C (iterate rounds one s) (iterate (rounds + more) one' s')
   pair-iterate one one' p zero s s' r below = absurd (omega arith)
   pair-iterate one one' p (suc rounds) s s' r below =
       let e : suc rounds + more ≡ suc (rounds + more) = omega arith in
       subst (λ n. Alike R C (iterate (suc rounds) one s) (iterate n one' s')) (sym e) (go (one s) (one' s') (p.alike s s' r) (p.keeps s') (pair-iterate one one' p rounds))
     where
-      go : (o o' : Outcome Turn) → Alike R C o o' → Holds Behind F s' o' →
+      go : (o o' : Outcome Turn) → Alike R C o o' → Holds Passed F s' o' →
           ((t t' : State) → R t t' → t.turns < rounds → Alike R C (iterate rounds one t) (iterate (rounds + more) one' t')) →
-          Alike R C (then o (behind_turn (iterate rounds one))) (then o' (behind_turn (iterate (rounds + more) one')))
+          Alike R C (then o (after_turn (iterate rounds one))) (then o' (after_turn (iterate (rounds + more) one')))
       go (GoesOn Again t) (GoesOn Again t') a k later =
           let apart : s'.turns ≡ s.turns + more = laws.turns s s' r in
           let apart' : t'.turns ≡ t.turns + more = laws.turns t t' a.1 in
@@ -315,12 +315,12 @@ module _ (is_loose : Class → Bool) (noted noted' : Bool) (more : ℕ) (R C P :
       go (EndsAs e t) (GoesOn Again t') a k later =
           let apart : s'.turns ≡ s.turns + more = laws.turns s s' r in
           subst (λ w. Alike R C (EndsAs w t) (iterate (rounds + more) one' t')) (sym a.0)
-          (behind-all t t' (iterate (rounds + more) one' t') a.1 (keep-iterate one' p.keeps (rounds + more) t' (omega (arith, apart, k.1, below))))
+          (passed-all t t' (iterate (rounds + more) one' t') a.1 (keep-iterate one' p.keeps (rounds + more) t' (omega (arith, apart, k.1, below))))
       go (EndsAs e t) (GoesOn (Leaves flow') t') a k later = a
       go (EndsAs e t) (EndsAs e' t') a k later = a
 
   -- a loop
-  pair-loop : (one one' : State → Outcome Turn) → Pair Turn Behind one one' → Pair Flow Plain (loop one) (loop one')
+  pair-loop : (one one' : State → Outcome Turn) → Pair Turn Passed one one' → Pair Flow Plain (loop one) (loop one')
   pair-loop one one' p = record {
     alike = λ s s' r.
         let apart : s'.turns ≡ s.turns + more = laws.turns s s' r in
@@ -363,16 +363,16 @@ module _ (is_loose : Class → Bool) (noted noted' : Bool) (more : ℕ) (R C P :
     pair-condition (Some e) = pair-value e
 
     pair-meaning : (st : Stmt) → Pair Flow Plain (meaning first calls st) (meaning second calls' st)
-    pair-meaning Nothing = pair-goes Next
-    pair-meaning (Then one other) = pair-then _ _ _ _ (pair-meaning one) (λ flow. pair-behind _ _ flow (pair-meaning other))
-    pair-meaning Empty = pair-tick _ _ (pair-goes Next)
+    pair-meaning Nothing = pair-goes Completed
+    pair-meaning (Then one other) = pair-then _ _ _ _ (pair-meaning one) (λ flow. pair-after_statement _ _ flow (pair-meaning other))
+    pair-meaning Empty = pair-tick _ _ (pair-goes Completed)
     pair-meaning (Block body) = pair-tick _ _ (pair-meaning body)
     pair-meaning (Local x e) = pair-tick _ _ (pair-then _ _ _ _ (pair-value_or_zero e) (λ v. pair-write x 0 v))
     pair-meaning (Assign x e) = pair-tick _ _ (pair-then _ _ _ _ (pair-value e) (λ v. pair-write x 0 v))
     pair-meaning (Store at x length index e) =
         pair-tick _ _ (pair-then _ _ _ _ (pair-value index) (λ i. pair-then _ _ _ _ (pair-within at length i) (λ i'. pair-then _ _ _ _ (pair-value e) (λ v. pair-write x i' v))))
     pair-meaning (Call function arguments) =
-        pair-tick _ _ (pair-then _ _ _ _ (pair-values arguments) (λ vs. pair-then _ _ _ _ (same.each function vs) (λ v. pair-goes Next)))
+        pair-tick _ _ (pair-then _ _ _ _ (pair-values arguments) (λ vs. pair-then _ _ _ _ (same.each function vs) (λ v. pair-goes Completed)))
     pair-meaning Suspend = pair-tick _ _ pair-suspension
     pair-meaning (Release e) = pair-tick _ _ (pair-then _ _ _ _ (pair-value e) (λ v. pair-release v))
     pair-meaning Check = pair-tick _ _ pair-check
@@ -381,7 +381,7 @@ module _ (is_loose : Class → Bool) (noted noted' : Bool) (more : ℕ) (R C P :
     pair-meaning Continue = pair-tick _ _ (pair-goes Continued)
     pair-meaning (If test body other) =
         pair-tick _ _ (pair-then _ _ _ _ (pair-value test) (λ v. pair-choose (v == 0) _ _ _ _ (pair-meaning other) (pair-meaning body)))
-    pair-meaning (While test body) = pair-tick _ _ (pair-loop _ _ (pair-turn _ _ _ _ _ _ (pair-value test) (pair-meaning body) (pair-goes Next)))
+    pair-meaning (While test body) = pair-tick _ _ (pair-loop _ _ (pair-turn _ _ _ _ _ _ (pair-value test) (pair-meaning body) (pair-goes Completed)))
     pair-meaning (For start test step body) =
         pair-tick _ _ (pair-then _ _ _ _ (pair-meaning start) (λ flow. pair-loop _ _ (pair-turn _ _ _ _ _ _ (pair-condition test) (pair-meaning body) (pair-meaning step))))
 
@@ -392,17 +392,17 @@ module _ (is_loose : Class → Bool) (noted noted' : Bool) (more : ℕ) (R C P :
     pair-given (x ∷ xs) (word ∷ words) f f' p =
         let later : Pair Flow Plain (λ s. f (given first xs words s)) (λ s. f' (given second xs words s)) = pair-given xs words f f' p in
         record {
-          alike = λ s s' r. later.alike (write first x 0 word s) (write second x 0 word s') (laws.write_too s s' r x 0 word);
-          keeps = λ s'. holds-from s' (write second x 0 word s') (f' (given second xs words (write second x 0 word s'))) (laws.writes s' x 0 word) (later.keeps (write second x 0 word s'));
+          alike = λ s s' r. later.alike (writing first x 0 word s) (writing second x 0 word s') (laws.write_too s s' r x 0 word);
+          keeps = λ s'. holds-from s' (writing second x 0 word s') (f' (given second xs words (writing second x 0 word s'))) (laws.writes s' x 0 word) (later.keeps (writing second x 0 word s'));
         }
 
-    pair-called : (f : Function) (words : List ℕ) → Pair ℕ Plain (called first calls f words) (called second calls' f words)
-    pair-called f words =
+    pair-function_meaning : (f : Function) (words : List ℕ) → Pair ℕ Plain (function_meaning first calls f words) (function_meaning second calls' f words)
+    pair-function_meaning f words =
         pair-tick _ _ (pair-then _ _ _ _ (pair-given f.parameters words _ _ (pair-meaning f.body)) (λ flow. pair-goes (result_of flow)))
 
     pair-with_function : (number : ℕ) (f : Function) → Same (with_function first calls number f) (with_function second calls' number f)
     pair-with_function number f = record {
-      each = λ function words. pair-choose (number == function) _ _ _ _ (pair-called f words) (same.each function words);
+      each = λ function words. pair-choose (number == function) _ _ _ _ (pair-function_meaning f words) (same.each function words);
     }
 
   -- the calls of the functions of a program

@@ -5,7 +5,7 @@ use Rattle.aegis_num.specs.declared.memory.OutOfMemory.{OutOfMemory}
 use Rattle.c_semantics.specs.States.{State, Setting, Outcome, GoesOn, EndsAs, End, Ended, Index, Divide, Turns}
 use Rattle.c_evaluator.specs.declared.machine.Machine.{Machine}
 use Rattle.execution.specs.Traffic.{traffic_from}
-use Rattle.c_semantics.specs.Tree
+use Rattle.c_semantics.specs.ResolvedTree as Tree
 use Rattle.c_semantics.specs.Meaning
 use Rattle.c_semantics.specs.Meaning.{no_class, first_memory}
 use Rattle.std.proofs.Common.{Vec, Global}
@@ -71,7 +71,7 @@ DoesWords outcome result state = DoesAs (λ (words : Vec ℕ Global). words.item
 
 -- how a statement is left
 abbrev pub flow_of : Flow → Meaning.Flow
-flow_of flow.Next = Meaning.Next
+flow_of flow.Completed = Meaning.Completed
 flow_of flow.Broke = Meaning.Broke
 flow_of flow.Continued = Meaning.Continued
 flow_of (flow.Returned value) = Meaning.Returned value
