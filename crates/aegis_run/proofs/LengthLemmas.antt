@@ -16,7 +16,7 @@ use Rattle.c_grammar.specs.StatementGrammar.{Local, Simple, Statement, Body}
 use Rattle.c_grammar.specs.StatementGrammar as s
 use Rattle.c_grammar.specs.ProgramGrammar.{IsItem, AreItems}
 use Rattle.c_grammar.specs.ProgramGrammar as p
-use Rattle.c_grammar.specs.Places.{limit, Reads}
+use Rattle.c_grammar.specs.TokenPrograms.{limit, AreProgram}
 use Rattle.aegis_run.specs.Literals.{released_by, returns_literal, in_front, body_literals, item_literals, items_literals, literals_of}
 
 -- ---- lengths of lists that are put together
@@ -158,7 +158,7 @@ length-numbered : (place : ℕ) (ks : List Kind) → length (numbered place ks) 
 length-numbered place [] = refl
 length-numbered place (k ∷ ks) = ap suc (length-numbered (suc place) ks)
 
-pub few_in_program : (ks : List Kind) (program : Program) (literals : List ℕ) → Reads ks program → literals_of program ≡ Some literals → 5 * length literals ≤ length ks
+pub few_in_program : (ks : List Kind) (program : Program) (literals : List ℕ) → AreProgram ks program → literals_of program ≡ Some literals → 5 * length literals ≤ length ks
 few_in_program ks program literals reads same =
     let few : 5 * length literals ≤ length (bounded_all limit (numbered 0 ks)) = few_in_items _ program.items literals reads same in
     let count : length (bounded_all limit (numbered 0 ks)) ≡ length ks = length-map (numbered 0 ks) (bounded limit) ∙ length-numbered 0 ks in

@@ -14,10 +14,10 @@ use Rattle.c_grammar.specs.declared.item.Item.{Item}
 use Rattle.c_grammar.specs.declared.item.Program.{Program}
 use Rattle.c_grammar.specs.Same as same
 use Rattle.c_grammar.specs.Same.{Same, SameExpr, SameStmt, SameStmts, SameItem, SameItems, SameOption, SameParameters}
-use Rattle.c_grammar.specs.Places.{Reads}
-use Rattle.c_grammar.specs.AlikeKinds.{lexemes_in, same_reads}
+use Rattle.c_grammar.specs.TokenPrograms.{AreProgram}
+use Rattle.c_grammar.proofs.AlikeKinds.{lexemes_in, same_reads}
 use Rattle.c_grammar.specs.AlikePlaces.{same_expected, same_deep, same_shallow}
-use Rattle.c_grammar.specs.PlaceLaws.{reads-expected, reads-deep, expected-one, deep-one, expected-deep}
+use Rattle.c_grammar.proofs.PlaceLaws.{reads-expected, reads-deep, expected-one, deep-one, expected-deep}
 use Rattle.c_types.specs.declared.error.TypeError.{TypeError}
 use Rattle.c_types.specs.declared.error.TypeError.TheVariants as type
 use Rattle.c_types.specs.Checked.{IsTyped}
@@ -130,7 +130,7 @@ pub one_literals : OneProgram → (text : List ℕ) (p q : Program) → IsText t
 one_literals one text p q first second = same_items p.items q.items (one_text one text p q first second)
 
 -- a program is not refused
-read_refused : (kinds : List Kind) (p : Program) (error : SyntaxError) → error ≢ syntax.OutOfMemory → Reads kinds p → IsRefusedAs kinds error → ⊥
+read_refused : (kinds : List Kind) (p : Program) (error : SyntaxError) → error ≢ syntax.OutOfMemory → AreProgram kinds p → IsRefusedAs kinds error → ⊥
 read_refused kinds p (syntax.Expected place) other reads refused = reads-expected kinds p place reads refused.0
 read_refused kinds p (syntax.Deep place) other reads refused = reads-deep kinds p place reads refused
 read_refused kinds p syntax.OutOfMemory other reads refused = other refl

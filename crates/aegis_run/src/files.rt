@@ -1,6 +1,6 @@
 //! The files that a command reads, in their order.
 ghost use Rattle.std.specs.Prelude.{◌≡◌, ◌≢◌, ◌≤◌, ◌*◌, ℕ, List, Some, length, IfOk, IfErr, OnOk};
-ghost use Rattle.c_grammar.specs.Places.{Reads};
+ghost use Rattle.c_grammar.specs.TokenPrograms.{AreProgram};
 ghost use Rattle.c_types.specs.Checked.{IsRead as IsReadProgram, IsTyped};
 ghost use Rattle.aegis_run.specs.declared.ends.File.TheVariants as file;
 ghost use Rattle.aegis_run.specs.Answer.{IsRead, IsAccepted, AreTold, limit_for, CauseOf};
@@ -35,7 +35,7 @@ pub struct Accepted {
     pub input: Vec<u8>,
 }
 
-/// Reads the source, the script and the input, in this order, up to the first that stops the run.
+/// AreProgram the source, the script and the input, in this order, up to the first that stops the run.
 pub fn prepare_run<F: Folder>(
     alloc: Global,
     folder: &mut F,
@@ -69,7 +69,7 @@ pub fn prepare_run<F: Folder>(
     }
 }
 
-/// Reads the source and the input, in this order, up to the first that leaves no meaning.
+/// AreProgram the source and the input, in this order, up to the first that leaves no meaning.
 pub fn prepare_mean<F: Folder>(
     alloc: Global,
     folder: &mut F,
@@ -140,7 +140,7 @@ fn tokens_in(alloc: Global, text: &[u8]) -> Result<Vec<Token>, TopEnd>
 fn program_in(alloc: Global, text: &[u8], tokens: &[Token]) -> Result<Program, TopEnd>
     requires few { length tokens.now ≤ MAX_SOURCE_BYTES }
     requires lexed { HasTokens text.now tokens.now }
-    ensures read { IfOk result (λ program. Reads (kinds_in tokens.now) program) }
+    ensures read { IfOk result (λ program. AreProgram (kinds_in tokens.now) program) }
     ensures refused { IfErr result (λ end. AcceptCause text.now end) }
 {
     match read_program(alloc, tokens) {

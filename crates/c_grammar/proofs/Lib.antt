@@ -1,2 +1,1 @@
-mod PrintedExamples
 mod Worked

@@ -1,6 +1,5 @@
 -- Worked derivations of the grammar, step by step.
-use Rattle.std.proofs.Common.{ℕ, suc, true, false, [], ◌∷◌, None, Some, refl, arith}
-use Rattle.arrayvec.specs.ArrayString.{ArrayString}
+use Rattle.std.proofs.Common.{ℕ, suc, true, false, List, [], ◌∷◌, None, Some, refl, arith}
 use Rattle.c_token.specs.declared.kinds.Kind.TheVariants.{Name, Number, Word, Sign}
 use Rattle.c_token.specs.declared.words.Word.TheVariants as words
 use Rattle.c_token.specs.declared.signs.Sign.TheVariants as signs
@@ -14,32 +13,32 @@ use Rattle.c_grammar.specs.ExpressionGrammar.{Expression, Binary, Unary}
 use Rattle.c_grammar.specs.StatementGrammar as s
 use Rattle.c_grammar.specs.StatementGrammar.{Statement, Body}
 use Rattle.c_grammar.specs.ProgramGrammar as p
-use Rattle.c_grammar.specs.Places.{Reads}
+use Rattle.c_grammar.specs.TokenPrograms.{AreProgram}
 
 -- the token with this number, within the limits
 abbrev at : ℕ → Spot
 at n = record { place = n; bound = 64 }
 
 -- a name alone, on every level
-unary : (l n : ℕ) (a : ArrayString) → Unary l (bounded_all 64 (numbered n (Name a ∷ []))) (expr.Name a n)
+unary : (l n : ℕ) (a : List ℕ) → Unary l (bounded_all 64 (numbered n (Name a ∷ []))) (expr.Name a n)
 unary l n a = e.primary (e.variable a (at n))
 
-tight : (l n used : ℕ) (a : ArrayString) → Binary l 1 used (bounded_all 64 (numbered n (Name a ∷ []))) (expr.Name a n) used
+tight : (l n used : ℕ) (a : List ℕ) → Binary l 1 used (bounded_all 64 (numbered n (Name a ∷ []))) (expr.Name a n) used
 tight l n used a = e.tighter (e.alone (unary l n a))
 
 number : (l n value : ℕ) → Expression l (bounded_all 64 (numbered n (Number value false ∷ []))) (expr.Number value false n)
 number l n value = e.whole (e.tighter (e.tighter (e.tighter (e.tighter (e.tighter (e.tighter (e.tighter (e.tighter (e.tighter (e.tighter (e.alone {used = 0} (e.primary (e.literal value false (at n))))))))))))))
 
 -- `a - b - c` groups to the left.
-left : (a b c : ArrayString) → Expression 1 (bounded_all 64 (numbered 5 (Name a ∷ Sign signs.Minus ∷ Name b ∷ Sign signs.Minus ∷ Name c ∷ [])))
+left : (a b c : List ℕ) → Expression 1 (bounded_all 64 (numbered 5 (Name a ∷ Sign signs.Minus ∷ Name b ∷ Sign signs.Minus ∷ Name c ∷ [])))
     (expr.Binary signs.Minus (expr.Binary signs.Minus (expr.Name a 5) (expr.Name b 7) 6) (expr.Name c 9) 8)
 left a b c = e.whole
     (e.tighter (e.tighter (e.tighter (e.tighter (e.tighter (e.tighter (e.tighter (e.tighter (e.both signs.Minus (at 8) (e.both signs.Minus (at 6) (e.tighter (tight 1 5 0 a)) refl (omega arith) (tight 1 7 1 b)) refl (omega arith) (tight 1 9 2 c))))))))))
 
 -- `a || b && c` has the `&&` on the right of the `||`.
-ranks : (a b c : ArrayString) → Expression 1 (bounded_all 64 (numbered 0 (Name a ∷ Sign signs.LogicalOr ∷ Name b ∷ Sign signs.LogicalAnd ∷ Name c ∷ [])))
+looser : (a b c : List ℕ) → Expression 1 (bounded_all 64 (numbered 0 (Name a ∷ Sign signs.LogicalOr ∷ Name b ∷ Sign signs.LogicalAnd ∷ Name c ∷ [])))
     (expr.Binary signs.LogicalOr (expr.Name a 0) (expr.Binary signs.LogicalAnd (expr.Name b 2) (expr.Name c 4) 3) 1)
-ranks a b c = e.whole (e.both signs.LogicalOr (at 1)
+looser a b c = e.whole (e.both signs.LogicalOr (at 1)
     (e.tighter (e.tighter (e.tighter (e.tighter (e.tighter (e.tighter (e.tighter (e.tighter (e.tighter (tight 1 0 0 a)))))))))) refl (omega arith)
     (e.both signs.LogicalAnd (at 3) (e.tighter (e.tighter (e.tighter (e.tighter (e.tighter (e.tighter (e.tighter (e.tighter (tight 1 2 1 b))))))))) refl (omega arith)
     (e.tighter (e.tighter (e.tighter (e.tighter (e.tighter (e.tighter (e.tighter (tight 1 4 2 c))))))))))
@@ -57,7 +56,7 @@ release : (n value : ℕ) → Statement 0 (bounded_all 64 (numbered n (Word word
 release n value = s.simple (at (suc (suc (suc (suc n))))) (s.release (at n) (at (suc n)) (at (suc (suc (suc n)))) (omega arith) (number 1 (suc (suc n)) value))
 
 -- `int main(void){release(72);release(105);return 0;}`
-hi : (main : ArrayString) → Reads
+hi : (main : List ℕ) → AreProgram
     (Word words.Int ∷ Name main ∷ Sign signs.LeftParenthesis ∷ Word words.Void ∷ Sign signs.RightParenthesis ∷ Sign signs.LeftBrace
     ∷ Word words.Release ∷ Sign signs.LeftParenthesis ∷ Number 72 false ∷ Sign signs.RightParenthesis ∷ Sign signs.Semicolon
     ∷ Word words.Release ∷ Sign signs.LeftParenthesis ∷ Number 105 false ∷ Sign signs.RightParenthesis ∷ Sign signs.Semicolon

@@ -1,6 +1,5 @@
--- Tokens with their numbers, and with the bounds of nesting that hold at them.
+-- Promise: tokens with their numbers, and with the bounds of nesting that hold at them.
 use Rattle.std.specs.Prelude.{ℕ, suc, Bool, List, [], ◌∷◌, map}
-use Rattle.arrayvec.specs.ArrayString.{ArrayString}
 use Rattle.c_token.specs.declared.kinds.Kind.{Kind}
 use Rattle.c_token.specs.declared.kinds.Kind.TheVariants as kinds
 use Rattle.c_token.specs.declared.words.Word.{Word}
@@ -28,7 +27,7 @@ pub record Bounded : Type 0 where
   pub kind : Kind
 
 -- a name, a number, a word and a sign at a spot
-abbrev pub name : Spot → ArrayString → Bounded
+abbrev pub name : Spot → List ℕ → Bounded
 name spot text = record { spot = spot; kind = kinds.Name text }
 
 abbrev pub number : Spot → ℕ → Bool → Bounded
@@ -48,12 +47,12 @@ tok_of token = record { place = token.spot.place; kind = token.kind }
 abbrev pub bounded : ℕ → Tok → Bounded
 bounded bound token = record { spot = record { place = token.place; bound = bound }; kind = token.kind }
 
--- tokens in a row, seen so
+-- tokens in a row without their bounds, and their kinds alone
 abbrev pub toks_of : List Bounded → List Tok
 toks_of tokens = map tok_of tokens
 
-abbrev pub kinds_of : List Bounded → List Kind
-kinds_of tokens = map (λ token. token.kind) tokens
+abbrev pub bounded_kinds : List Bounded → List Kind
+bounded_kinds tokens = map (λ token. token.kind) tokens
 
 abbrev pub bounded_all : ℕ → List Tok → List Bounded
 bounded_all bound tokens = map (bounded bound) tokens

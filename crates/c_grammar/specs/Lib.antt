@@ -3,14 +3,5 @@ pub mod Precedence
 pub mod ExpressionGrammar
 pub mod StatementGrammar
 pub mod ProgramGrammar
-pub mod Places
-pub mod Same
-pub mod Printed
-pub mod TreeLaws
-pub mod Alike
-pub mod AlikeExpressions
-pub mod AlikeStatements
-pub mod AlikePrograms
-pub mod AlikeKinds
-pub mod AlikePlaces
-pub mod PlaceLaws
+pub mod TokenPrograms
+pub mod Bare

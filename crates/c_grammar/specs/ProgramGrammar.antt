@@ -1,6 +1,5 @@
--- The grammar of programs (ISO/IEC 9899, section 6.9): which tokens, all of them, are which program.
+-- Promise: the grammar of programs (ISO/IEC 9899, section 6.9): which tokens, all of them, are which program.
 use Rattle.std.specs.Prelude.{ℕ, zero, Bool, true, false, List, [], ◌∷◌, ◌++◌, Option, Some, None}
-use Rattle.arrayvec.specs.ArrayString.{ArrayString}
 use Rattle.c_token.specs.declared.signs.Sign.TheVariants.{LeftParenthesis, RightParenthesis, LeftBrace, RightBrace, LeftBracket, RightBracket, Semicolon, Comma, Assign, Minus}
 use Rattle.c_token.specs.declared.words.Word.TheVariants as w
 use Rattle.c_grammar.specs.declared.stmt.Stmt.{Stmt}
@@ -57,7 +56,7 @@ pub data IsResult : List Bounded → Kind3 → Type 0 where
 
 -- A parameter.
 pub data IsParameter : List Bounded → Parameter → Type 0 where
-  typed : {ts : List Bounded} {is_unsigned : Bool} (first at : Spot) (text : ArrayString) → IsType first ts is_unsigned
+  typed : {ts : List Bounded} {is_unsigned : Bool} (first at : Spot) (text : List ℕ) → IsType first ts is_unsigned
       → IsParameter (ts ++ name at text ∷ []) (record { unsigned = is_unsigned; name = text; token = at.place })
 
 -- At least one parameter, separated by commas.
@@ -80,18 +79,18 @@ pub data IsPrivate : List Bounded → Bool → Type 0 where
 -- A declaration.
 pub data IsItem : List Bounded → Item → Type 0 where
   object : {ts us vs : List Bounded} {class : Storage} {is_unsigned : Bool} {length : Option ℕ} (first at end : Spot)
-      (text : ArrayString) → IsStorage ts class → IsType first us is_unsigned → IsLength vs length
+      (text : List ℕ) → IsStorage ts class → IsType first us is_unsigned → IsLength vs length
       → IsItem (ts ++ (us ++ (name at text ∷ vs ++ sign end Semicolon ∷ []))) (i.Object class is_unsigned text length at.place)
   constant : {ts us vs : List Bounded} {is_unsigned braces : Bool} {length : Option ℕ} {values : List Value}
-      (const first at equals end : Spot) (text : ArrayString)
+      (const first at equals end : Spot) (text : List ℕ)
       → IsType first ts is_unsigned → IsLength us length → AreInitial vs values braces
       → IsItem (word const w.Const ∷ ts ++ (name at text ∷ us ++ (sign equals Assign ∷ vs ++ sign end Semicolon ∷ [])))
       (i.Constant is_unsigned text length values braces at.place)
-  untrusted : (first void at left inner right end : Spot) (text : ArrayString)
+  untrusted : (first void at left inner right end : Spot) (text : List ℕ)
       → IsItem (word first w.Untrusted ∷ word void w.Void ∷ name at text ∷ sign left LeftParenthesis ∷ word inner w.Void
       ∷ sign right RightParenthesis ∷ sign end Semicolon ∷ []) (i.Untrusted text at.place)
   function : {ts us vs ws : List Bounded} {is_private : Bool} {result : Kind3} {params : List Parameter} {body : List Stmt}
-      (at left right start end : Spot) (text : ArrayString)
+      (at left right start end : Spot) (text : List ℕ)
       → IsPrivate ts is_private → IsResult us result → AreParameters vs params → Body zero ws body
       → IsItem (ts ++ (us ++ (name at text ∷ sign left LeftParenthesis ∷ vs
       ++ (sign right RightParenthesis ∷ sign start LeftBrace ∷ ws ++ sign end RightBrace ∷ []))))

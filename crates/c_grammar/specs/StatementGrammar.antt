@@ -1,8 +1,7 @@
--- The grammar of statements (ISO/IEC 9899, section 6.8): which tokens, all of them, are which statement. `l` is the number of
+-- Promise: the grammar of statements (ISO/IEC 9899, section 6.8): which tokens, all of them, are which statement. `l` is the number of
 -- levels that are open around them. Each statement opens a level at its first token, which ends with it. So does each local, and
 -- each simple part of the head of a `for`. The block of a function is no statement.
 use Rattle.std.specs.Prelude.{◌<◌, ℕ, suc, Bool, true, false, List, [], ◌∷◌, ◌++◌, Option, Some, None}
-use Rattle.arrayvec.specs.ArrayString.{ArrayString}
 use Rattle.c_token.specs.declared.signs.Sign.TheVariants.{LeftParenthesis, RightParenthesis, LeftBrace, RightBrace, LeftBracket, RightBracket, Semicolon, Assign}
 use Rattle.c_token.specs.declared.words.Word.TheVariants as w
 use Rattle.c_grammar.specs.declared.expr.Expr.{Expr}
@@ -17,25 +16,25 @@ pub data IsType : Spot → List Bounded → Bool → Type 0 where
   unsigned : (at : Spot) → IsType at (word at w.Unsigned ∷ []) true
   unsigned_int : (at then : Spot) → IsType at (word at w.Unsigned ∷ word then w.Int ∷ []) true
 
--- A local without the sign behind it: a type and a name, and maybe a value.
+-- A local without the sign after it: a type and a name, and maybe a value.
 pub data Local : ℕ → List Bounded → Stmt → Type 0 where
-  plain : {l : ℕ} {ts : List Bounded} {is_unsigned : Bool} (first at : Spot) (text : ArrayString) → l < first.bound
+  plain : {l : ℕ} {ts : List Bounded} {is_unsigned : Bool} (first at : Spot) (text : List ℕ) → l < first.bound
       → IsType first ts is_unsigned
       → Local l (ts ++ name at text ∷ []) (s.Local is_unsigned text None at.place)
-  valued : {l : ℕ} {ts us : List Bounded} {is_unsigned : Bool} {x : Expr} (first at equals : Spot) (text : ArrayString)
+  valued : {l : ℕ} {ts us : List Bounded} {is_unsigned : Bool} {x : Expr} (first at equals : Spot) (text : List ℕ)
       → l < first.bound → IsType first ts is_unsigned → Expression (suc l) us x
       → Local l (ts ++ name at text ∷ sign equals Assign ∷ us) (s.Local is_unsigned text (Some x) at.place)
 
--- An assignment, a call, a release or a check, without the sign behind it.
+-- An assignment, a call, a release or a check, without the sign after it.
 pub data Simple : ℕ → List Bounded → Stmt → Type 0 where
-  assign : {l : ℕ} {ts : List Bounded} {x : Expr} (text : ArrayString) (at equals : Spot) → l < at.bound
+  assign : {l : ℕ} {ts : List Bounded} {x : Expr} (text : List ℕ) (at equals : Spot) → l < at.bound
       → Expression (suc l) ts x
       → Simple l (name at text ∷ sign equals Assign ∷ ts) (s.Assign text None x at.place)
-  assign_at : {l : ℕ} {ts us : List Bounded} {x y : Expr} (text : ArrayString) (at left right equals : Spot) → l < at.bound
+  assign_at : {l : ℕ} {ts us : List Bounded} {x y : Expr} (text : List ℕ) (at left right equals : Spot) → l < at.bound
       → suc l < left.bound → Expression (suc (suc l)) ts x → Expression (suc l) us y
       → Simple l (name at text ∷ sign left LeftBracket ∷ ts ++ sign right RightBracket ∷ sign equals Assign ∷ us)
       (s.Assign text (Some x) y at.place)
-  call : {l : ℕ} {ts : List Bounded} {xs : List Expr} (text : ArrayString) (at : Spot) → l < at.bound → Arguments (suc l) ts xs
+  call : {l : ℕ} {ts : List Bounded} {xs : List Expr} (text : List ℕ) (at : Spot) → l < at.bound → Arguments (suc l) ts xs
       → Simple l (name at text ∷ ts) (s.Call text xs at.place)
   release : {l : ℕ} {ts : List Bounded} {x : Expr} (at left right : Spot) → l < at.bound → Expression (suc l) ts x
       → Simple l (word at w.Release ∷ sign left LeftParenthesis ∷ ts ++ sign right RightParenthesis ∷ []) (s.Release x at.place)

@@ -67,7 +67,7 @@ pub enum Expr {
         op: Sign,
         /// The operand before it.
         left: Boxed<Expr>,
-        /// The operand behind it.
+        /// The operand after it.
         right: Boxed<Expr>,
         /// The token of the operator.
         token: u32,

@@ -3,8 +3,10 @@
 
 mod expr;
 mod item;
+mod operators;
 mod stmt;
 
 pub use expr::Expr;
 pub use item::{Item, Kind3, Parameter, Program, Storage, Value};
+pub use operators::{is_unary_operator, precedence};
 pub use stmt::Stmt;

@@ -25,7 +25,7 @@ pub enum Stmt {
         unsigned: bool,
         /// The name.
         name: Name,
-        /// What stands behind the sign `=`, if it does.
+        /// What stands after the sign `=`, if it does.
         value: Option<Expr>,
         /// The token of the name.
         token: u32,
@@ -36,7 +36,7 @@ pub enum Stmt {
         name: Name,
         /// What stands between the brackets, if they do.
         index: Option<Expr>,
-        /// What stands behind the sign `=`.
+        /// What stands after the sign `=`.
         value: Expr,
         /// The token of the name.
         token: u32,
@@ -85,7 +85,7 @@ pub enum Stmt {
         test: Expr,
         /// What is done where it holds.
         body: Boxed<Stmt>,
-        /// What stands behind `else`, if it does.
+        /// What stands after `else`, if it does.
         other: Option<Boxed<Stmt>>,
         /// The token of the word `if`.
         token: u32,
@@ -105,7 +105,7 @@ pub enum Stmt {
         first: Option<Boxed<Stmt>>,
         /// The condition, if one stands there.
         test: Option<Expr>,
-        /// A simple part behind the condition, if one stands there.
+        /// A simple part after the condition, if one stands there.
         step: Option<Boxed<Stmt>>,
         /// What is repeated.
         body: Boxed<Stmt>,

@@ -6,7 +6,7 @@ use Rattle.c_grammar.specs.declared.expr.Expr.{Expr}
 use Rattle.c_grammar.specs.declared.expr.Expr.TheVariants as expr
 use Rattle.c_grammar.specs.declared.expr.Expr.TheOpen.{Expr-F}
 use Rattle.c_grammar.specs.declared.expr.Expr.TheFolds.{fold-roll-Expr}
-use Rattle.c_grammar.specs.Precedence.{rank, is_unary_operator}
+use Rattle.c_grammar.specs.Precedence.{precedence as rank, is_unary_operator}
 use Rattle.c_grammar.specs.BoundedTokens.{Bounded}
 use Rattle.c_grammar.specs.ExpressionGrammar.{Expression, Binary, Unary, Primary, Arguments, Listed}
 use Rattle.c_grammar.specs.ExpressionGrammar.Expression.{whole}

@@ -11,7 +11,7 @@ use Rattle.c_grammar.specs.declared.item.Item.{Item}
 use Rattle.c_grammar.specs.declared.item.Item.TheVariants as item
 use Rattle.c_grammar.specs.BoundedTokens.{Bounded, bounded_all, numbered}
 use Rattle.c_grammar.specs.ProgramGrammar.{IsItem, AreItems}
-use Rattle.c_grammar.specs.Places.{limit}
+use Rattle.c_grammar.specs.TokenPrograms.{limit}
 use Rattle.c_types.specs.declared.declaration.Declaration.{Declaration}
 use Rattle.c_types.specs.Sites.{declaration_of, declarations_of, token_of}
 use Rattle.c_meaning.specs.Resolving.{function_in, function_tokens, functions_in, number_of}

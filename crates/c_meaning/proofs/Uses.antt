@@ -4,7 +4,7 @@ use Rattle.arrayvec.specs.ArrayString.{ArrayString}
 use Rattle.c_token.specs.declared.signs.Sign.{Sign}
 use Rattle.c_token.specs.declared.signs.Sign.TheVariants as sign
 use Rattle.c_grammar.specs.declared.expr.Expr.{Expr}
-use Rattle.c_grammar.specs.Precedence.{rank, is_unary_operator}
+use Rattle.c_grammar.specs.Precedence.{precedence as rank, is_unary_operator}
 use Rattle.c_types.specs.declared.declaration.Binding.{Binding}
 use Rattle.c_types.specs.declared.declaration.Declaration.{Declaration}
 use Rattle.c_types.specs.declared.declaration.Entity.{Entity}

@@ -9,7 +9,7 @@ use Rattle.c_grammar.specs.declared.expr.Expr.{Expr}
 use Rattle.c_grammar.specs.declared.expr.Expr.TheVariants as expr
 use Rattle.c_grammar.specs.BoundedTokens as g
 use Rattle.c_grammar.specs.BoundedTokens.{Tok, Spot, Bounded, tok_of, bounded, bounded_all}
-use Rattle.c_grammar.specs.Precedence.{rank}
+use Rattle.c_grammar.specs.Precedence.{precedence as rank}
 use Rattle.c_grammar.specs.ExpressionGrammar.{Expression, whole, Binary, alone, tighter, both, Unary, primary, literal}
 use Rattle.c_parser.specs.declared.expression.Grown.{Grown}
 use Rattle.c_parser.specs.Parser.{deep, Outcome, done, stop, Parser, follow, ◌>>=◌, gives, first_kind, sign}

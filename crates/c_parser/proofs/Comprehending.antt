@@ -11,7 +11,7 @@ use Rattle.c_grammar.specs.declared.expr.Expr.TheVariants as expr
 use Rattle.arrayvec.specs.ArrayString.{ArrayString}
 use Rattle.c_grammar.specs.BoundedTokens as g
 use Rattle.c_grammar.specs.BoundedTokens.{Tok, Spot, Bounded, tok_of, toks_of}
-use Rattle.c_grammar.specs.Precedence.{rank, is_unary_operator}
+use Rattle.c_grammar.specs.Precedence.{precedence as rank, is_unary_operator}
 use Rattle.c_grammar.specs.ExpressionGrammar as gr
 use Rattle.c_grammar.specs.ExpressionGrammar.{Expression, whole, Binary, alone, tighter, both, Unary, primary, operation, Primary, literal, variable, element, parenthesised, Arguments, Listed, further}
 use Rattle.c_parser.specs.declared.expression.Grown.{Grown}

@@ -6,9 +6,9 @@ use Rattle.std.proofs.lemmas.List.{map-append}
 use Rattle.c_token.specs.declared.Kind.{Kind}
 use Rattle.c_token.specs.Lexemes.{lexeme_of}
 use Rattle.c_token.specs.PlainText.{is_in_form}
-use Rattle.c_grammar.specs.BoundedTokens.{Bounded, kinds_of}
-use Rattle.c_grammar.specs.Places.{limit, AreLimited}
-use Rattle.c_grammar.specs.AlikeKinds.{lexemes_in}
+use Rattle.c_grammar.specs.BoundedTokens.{Bounded, bounded_kinds}
+use Rattle.c_grammar.specs.TokenPrograms.{limit, AreLimited}
+use Rattle.c_grammar.proofs.AlikeKinds.{lexemes_in}
 
 abbrev pub IsFine : Bounded → Type 0
 IsFine token = (token.spot.bound ≤ limit) × (is_in_form (lexeme_of token.kind) ≡ true)
@@ -29,17 +29,17 @@ pub fine_limited : (ts : List Bounded) → AreFine ts → AreLimited ts
 fine_limited [] fine = tt
 fine_limited (t ∷ ts) fine = (fine.0.0, fine_limited ts fine.1)
 
-pub fine_in_form : (ts : List Bounded) → AreFine ts → list_all is_in_form (lexemes_in (kinds_of ts)) ≡ true
+pub fine_in_form : (ts : List Bounded) → AreFine ts → list_all is_in_form (lexemes_in (bounded_kinds ts)) ≡ true
 fine_in_form [] fine = refl
 fine_in_form (t ∷ ts) fine = and_from _ _ fine.0.1 (fine_in_form ts fine.1)
 
-pub fine_from : (ts : List Bounded) → AreLimited ts → list_all is_in_form (lexemes_in (kinds_of ts)) ≡ true → AreFine ts
+pub fine_from : (ts : List Bounded) → AreLimited ts → list_all is_in_form (lexemes_in (bounded_kinds ts)) ≡ true → AreFine ts
 fine_from [] limited form = tt
 fine_from (t ∷ ts) limited form = let more = and_parts _ _ form in ((limited.0, more.0), fine_from ts limited.1 more.1)
 
 -- the kinds of parts in a row
-pub kinds-append : (xs ys : List Bounded) → kinds_of (xs ++ ys) ≡ kinds_of xs ++ kinds_of ys
+pub kinds-append : (xs ys : List Bounded) → bounded_kinds (xs ++ ys) ≡ bounded_kinds xs ++ bounded_kinds ys
 kinds-append xs ys = map-append (λ token. token.kind) xs ys
 
-pub piece : (xs ys : List Bounded) {ks : List Kind} → kinds_of xs ≡ ks → kinds_of (xs ++ ys) ≡ ks ++ kinds_of ys
-piece xs ys e = kinds-append xs ys ∙ ap (λ ks. ks ++ kinds_of ys) e
+pub piece : (xs ys : List Bounded) {ks : List Kind} → bounded_kinds xs ≡ ks → bounded_kinds (xs ++ ys) ≡ ks ++ bounded_kinds ys
+piece xs ys e = kinds-append xs ys ∙ ap (λ ks. ks ++ bounded_kinds ys) e

@@ -7,8 +7,8 @@ use Rattle.c_grammar.specs.declared.Expr.{Expr}
 use Rattle.c_grammar.specs.declared.Stmt.{Stmt}
 use Rattle.c_grammar.specs.declared.stmt.Stmt.TheVariants.{For}
 use Rattle.c_grammar.specs.declared.stmt.Stmt.TheOpen.{Stmt-F}
-use Rattle.c_grammar.specs.Printed.{stmt_step, stmt_kinds, head_kinds, in_code}
-use Rattle.c_grammar.specs.TreeLaws.{stmt_kinds-For}
+use Rattle.c_printer.specs.PrintedTokens.{stmt_step, stmt_kinds, head_kinds, in_code}
+use Rattle.c_printer.proofs.PrintedForms.{stmt_kinds-For}
 use Rattle.c_printer.specs.Printing.{spelled, spelled_all, head_begin_kinds, head_end_kinds}
 
 parts : (a b c : List Kind) → spelled_all (head_begin_kinds a) ++ (spelled_all b ++ spelled_all c) ≡ spelled_all (head_begin_kinds a ++ (b ++ c))

@@ -1,3 +1,5 @@
+mod PrintedForms
+mod PrintedExamples
 pub mod PlainEnds
 pub mod ForTexts
 pub mod FineTokens

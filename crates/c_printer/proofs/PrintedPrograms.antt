@@ -4,7 +4,6 @@ use Rattle.std.specs.Prelude.{map, nat_lt, nat_le, ◌||◌, if◌then◌else◌
 use Rattle.std.proofs.lemmas.List.{append-nil}
 use Rattle.std.proofs.lemmas.Bool.{and_from, and_parts}
 use Rattle.std.proofs.lemmas.Bool.Decides.{nat_tests}
-use Rattle.arrayvec.specs.ArrayString.{ArrayString}
 use Rattle.c_token.specs.declared.Kind.{Kind}
 use Rattle.c_token.specs.declared.Kind.TheVariants as kinds
 use Rattle.c_token.specs.declared.Word.TheVariants as words
@@ -18,17 +17,17 @@ use Rattle.c_grammar.specs.declared.Kind3.{Kind3}
 use Rattle.c_grammar.specs.declared.Value.{Value}
 use Rattle.c_grammar.specs.declared.Parameter.{Parameter}
 use Rattle.c_grammar.specs.declared.Program.{Program}
-use Rattle.c_grammar.specs.Places.{limit}
+use Rattle.c_grammar.specs.TokenPrograms.{limit}
 use Rattle.c_grammar.specs.BoundedTokens as toks
-use Rattle.c_grammar.specs.BoundedTokens.{Spot, Bounded, kinds_of, name, sign, word}
+use Rattle.c_grammar.specs.BoundedTokens.{Spot, Bounded, bounded_kinds, name, sign, word}
 use Rattle.c_grammar.specs.ProgramGrammar.{IsStorage, IsLength, IsValue, AreValues, AreInitial, IsResult, IsParameter, AreListed, AreParameters, IsPrivate, IsItem, AreItems, IsProgram}
-use Rattle.c_grammar.specs.Printed.{type_kind, with_commas, behind_commas, storage_kinds, length_kinds, value_kinds, values_kinds, result_kind, parameter_kinds, parameters_kinds, in_a_row, stmt_kinds, block_kinds, item_kinds, items_kinds, program_kinds}
+use Rattle.c_printer.specs.PrintedTokens.{type_kind, with_commas, behind_commas, storage_kinds, length_kinds, value_kinds, values_kinds, result_kind, parameter_kinds, parameters_kinds, in_a_row, stmt_kinds, block_kinds, item_kinds, items_kinds, program_kinds}
 use Rattle.c_printer.proofs.FineTokens.{IsFine, AreFine, fine-append, fine-join, piece}
 use Rattle.c_printer.proofs.PrintedStatements.{type_token, printed_type, printed_body}
 
 -- what is read again, and what its tokens are
 abbrev PrintedStorage : Storage → Type 0
-PrintedStorage class = (us : List Bounded) × (IsStorage us class × (kinds_of us ≡ storage_kinds class) × AreFine us)
+PrintedStorage class = (us : List Bounded) × (IsStorage us class × (bounded_kinds us ≡ storage_kinds class) × AreFine us)
 
 printed_storage : {ts : List Bounded} {class : Storage} → IsStorage ts class → AreFine ts → PrintedStorage class
 printed_storage IsStorage.nothing fine = ([], (IsStorage.nothing, refl, tt))
@@ -43,7 +42,7 @@ plain_form length unsigned form =
     and_from _ _ (and_parts _ _ form).0 (let large : (nat_lt 2147483647 length || nat_le length 2147483647) ≡ true = grind (arith, nat_tests) in large)
 
 abbrev PrintedLength : Option ℕ → Type 0
-PrintedLength length = (us : List Bounded) × (IsLength us length × (kinds_of us ≡ length_kinds length) × AreFine us)
+PrintedLength length = (us : List Bounded) × (IsLength us length × (bounded_kinds us ≡ length_kinds length) × AreFine us)
 
 printed_length : {ts : List Bounded} {length : Option ℕ} → IsLength ts length → AreFine ts → PrintedLength length
 printed_length IsLength.nothing fine = ([], (IsLength.nothing, refl, tt))
@@ -52,7 +51,7 @@ printed_length (IsLength.given length unsigned left at right) fine = (
   (IsLength.given length (nat_lt 2147483647 length) left at right, refl, (fine.0, ((fine.1.0.0, plain_form length unsigned fine.1.0.1), fine.1.1))),
 )
 
-printed_value : {ts : List Bounded} {x : Value} → IsValue ts x → kinds_of ts ≡ value_kinds x
+printed_value : {ts : List Bounded} {x : Value} → IsValue ts x → bounded_kinds ts ≡ value_kinds x
 printed_value (IsValue.plain value unsigned at) = refl
 printed_value (IsValue.negative value unsigned minus at) = refl
 
@@ -60,14 +59,14 @@ behind_values : {ts : List Bounded} {xs : List Value} → AreValues ts xs → be
 behind_values (AreValues.one d) = refl
 behind_values (AreValues.further comma d d2) = refl
 
-printed_values : {ts : List Bounded} {xs : List Value} → AreValues ts xs → kinds_of ts ≡ with_commas (map value_kinds xs)
+printed_values : {ts : List Bounded} {xs : List Value} → AreValues ts xs → bounded_kinds ts ≡ with_commas (map value_kinds xs)
 printed_values (AreValues.one {x = x} d) = printed_value d ∙ sym (append-nil (value_kinds x))
 printed_values (AreValues.further {ts = ts} {us = us} {x = x} {xs = xs} comma d d2) =
     piece ts (sign comma signs.Comma ∷ us) (printed_value d)
     ∙ ap (λ ks. value_kinds x ++ kinds.Sign signs.Comma ∷ ks) (printed_values d2)
     ∙ ap (λ ks. value_kinds x ++ ks) (sym (behind_values d2))
 
-printed_initial : {ts : List Bounded} {xs : List Value} {braces : Bool} → AreInitial ts xs braces → kinds_of ts ≡ values_kinds braces xs
+printed_initial : {ts : List Bounded} {xs : List Value} {braces : Bool} → AreInitial ts xs braces → bounded_kinds ts ≡ values_kinds braces xs
 printed_initial (AreInitial.single {x = x} d) = printed_value d ∙ sym (append-nil (value_kinds x))
 printed_initial (AreInitial.braced {ts = ts} left right d) = ap (λ ks. kinds.Sign signs.LeftBrace ∷ ks) (piece ts (sign right signs.RightBrace ∷ []) (printed_values d))
 
@@ -80,7 +79,7 @@ printed_result (IsResult.unsigned at d) fine = let type = printed_type d fine in
 printed_result (IsResult.void at) fine = (word at words.Void, (IsResult.void at, refl, fine.0))
 
 abbrev PrintedParameter : Parameter → Type 0
-PrintedParameter x = (us : List Bounded) × (IsParameter us x × (kinds_of us ≡ parameter_kinds x) × AreFine us)
+PrintedParameter x = (us : List Bounded) × (IsParameter us x × (bounded_kinds us ≡ parameter_kinds x) × AreFine us)
 
 printed_parameter : {ts : List Bounded} {x : Parameter} → IsParameter ts x → AreFine ts → PrintedParameter x
 printed_parameter (IsParameter.typed {ts = ts} {is_unsigned = is_unsigned} first at text d) fine =
@@ -90,7 +89,7 @@ printed_parameter (IsParameter.typed {ts = ts} {is_unsigned = is_unsigned} first
 
 abbrev PrintedListed : List Parameter → Type 0
 PrintedListed xs =
-    (us : List Bounded) × (AreListed us xs × (kinds_of us ≡ with_commas (map parameter_kinds xs))
+    (us : List Bounded) × (AreListed us xs × (bounded_kinds us ≡ with_commas (map parameter_kinds xs))
     × (behind_commas (map parameter_kinds xs) ≡ kinds.Sign signs.Comma ∷ with_commas (map parameter_kinds xs))
     × (kinds.Sign signs.LeftParenthesis ∷ (with_commas (map parameter_kinds xs) ++ kinds.Sign signs.RightParenthesis ∷ []) ≡ parameters_kinds xs)
     × AreFine us)
@@ -117,7 +116,7 @@ printed_listed (AreListed.further {ts = ts} {us = us} {x = x} {xs = xs} comma d 
 
 abbrev PrintedParameters : List Parameter → Type 0
 PrintedParameters xs =
-    (us : List Bounded) × (AreParameters us xs × (kinds.Sign signs.LeftParenthesis ∷ (kinds_of us ++ kinds.Sign signs.RightParenthesis ∷ []) ≡ parameters_kinds xs) × AreFine us)
+    (us : List Bounded) × (AreParameters us xs × (kinds.Sign signs.LeftParenthesis ∷ (bounded_kinds us ++ kinds.Sign signs.RightParenthesis ∷ []) ≡ parameters_kinds xs) × AreFine us)
 
 printed_parameters : {ts : List Bounded} {xs : List Parameter} (left : Spot) → left.bound ≤ limit → AreParameters ts xs → AreFine ts → PrintedParameters xs
 printed_parameters left le AreParameters.nothing fine = (word left words.Void ∷ [], (AreParameters.void left, refl, ((le, refl), tt)))
@@ -126,33 +125,33 @@ printed_parameters left le (AreParameters.some d) fine =
     let r = printed_listed d fine in
     (r.0, (AreParameters.some r.1.0, ap (λ ks. kinds.Sign signs.LeftParenthesis ∷ (ks ++ kinds.Sign signs.RightParenthesis ∷ [])) r.1.1 ∙ r.1.3, r.1.4))
 
-printed_private : {ts : List Bounded} {is_private : Bool} → IsPrivate ts is_private → kinds_of ts ≡ (if is_private then kinds.Word words.Private ∷ [] else [])
+printed_private : {ts : List Bounded} {is_private : Bool} → IsPrivate ts is_private → bounded_kinds ts ≡ (if is_private then kinds.Word words.Private ∷ [] else [])
 printed_private IsPrivate.nothing = refl
 printed_private (IsPrivate.given at) = refl
 
 -- the kinds of a function's parts
 signature : (list block : List Bounded) (right start end : Spot) (params : List Parameter) (body : List Stmt)
-    → kinds.Sign signs.LeftParenthesis ∷ (kinds_of list ++ kinds.Sign signs.RightParenthesis ∷ []) ≡ parameters_kinds params
-    → kinds_of block ≡ in_a_row (map stmt_kinds body)
-    → kinds.Sign signs.LeftParenthesis ∷ kinds_of (list ++ sign right signs.RightParenthesis ∷ sign start signs.LeftBrace ∷ (block ++ sign end signs.RightBrace ∷ []))
+    → kinds.Sign signs.LeftParenthesis ∷ (bounded_kinds list ++ kinds.Sign signs.RightParenthesis ∷ []) ≡ parameters_kinds params
+    → bounded_kinds block ≡ in_a_row (map stmt_kinds body)
+    → kinds.Sign signs.LeftParenthesis ∷ bounded_kinds (list ++ sign right signs.RightParenthesis ∷ sign start signs.LeftBrace ∷ (block ++ sign end signs.RightBrace ∷ []))
     ≡ parameters_kinds params ++ block_kinds body
 signature list block right start end params body e f =
     ap (λ ks. kinds.Sign signs.LeftParenthesis ∷ ks)
     (piece list (sign right signs.RightParenthesis ∷ sign start signs.LeftBrace ∷ (block ++ sign end signs.RightBrace ∷ [])) refl
-    ∙ ap (λ ks. kinds_of list ++ kinds.Sign signs.RightParenthesis ∷ kinds.Sign signs.LeftBrace ∷ ks) (piece block (sign end signs.RightBrace ∷ []) f)
-    ∙ sym (append_assoc (kinds_of list) (kinds.Sign signs.RightParenthesis ∷ []) (block_kinds body)))
+    ∙ ap (λ ks. bounded_kinds list ++ kinds.Sign signs.RightParenthesis ∷ kinds.Sign signs.LeftBrace ∷ ks) (piece block (sign end signs.RightBrace ∷ []) f)
+    ∙ sym (append_assoc (bounded_kinds list) (kinds.Sign signs.RightParenthesis ∷ []) (block_kinds body)))
     ∙ ap (λ ks. ks ++ block_kinds body) e
 
-function_kinds : (ts : List Bounded) (answer : Bounded) (rest : List Bounded) (before : List Kind) (first : Kind) (text : ArrayString) (at : Spot) (more : List Kind)
-    → kinds_of ts ≡ before → answer.kind ≡ first → kinds_of rest ≡ more
-    → kinds_of (ts ++ answer ∷ name at text ∷ rest) ≡ before ++ first ∷ kinds.Name text ∷ more
+function_kinds : (ts : List Bounded) (answer : Bounded) (rest : List Bounded) (before : List Kind) (first : Kind) (text : List ℕ) (at : Spot) (more : List Kind)
+    → bounded_kinds ts ≡ before → answer.kind ≡ first → bounded_kinds rest ≡ more
+    → bounded_kinds (ts ++ answer ∷ name at text ∷ rest) ≡ before ++ first ∷ kinds.Name text ∷ more
 function_kinds ts answer rest before first text at more e f g =
     piece ts (answer ∷ name at text ∷ rest) e
-    ∙ ap (λ k. before ++ k ∷ kinds.Name text ∷ kinds_of rest) f
+    ∙ ap (λ k. before ++ k ∷ kinds.Name text ∷ bounded_kinds rest) f
     ∙ ap (λ ks. before ++ first ∷ kinds.Name text ∷ ks) g
 
 abbrev PrintedItem : Item → Type 0
-PrintedItem x = (us : List Bounded) × (IsItem us x × (kinds_of us ≡ item_kinds x) × AreFine us)
+PrintedItem x = (us : List Bounded) × (IsItem us x × (bounded_kinds us ≡ item_kinds x) × AreFine us)
 
 printed_item : {ts : List Bounded} {x : Item} → IsItem ts x → AreFine ts → PrintedItem x
 printed_item (IsItem.object {ts = ts} {us = us} {vs = vs} {class = class} {is_unsigned = is_unsigned} {length = length} first at end text d d2 d3) fine =
@@ -209,7 +208,7 @@ printed_item (IsItem.function {ts = ts} {us = us} {vs = vs} {ws = ws} {is_privat
     )
 
 abbrev PrintedItems : List Item → Type 0
-PrintedItems xs = (us : List Bounded) × (AreItems us xs × (kinds_of us ≡ items_kinds xs) × AreFine us)
+PrintedItems xs = (us : List Bounded) × (AreItems us xs × (bounded_kinds us ≡ items_kinds xs) × AreFine us)
 
 printed_items : {ts : List Bounded} {xs : List Item} → AreItems ts xs → AreFine ts → PrintedItems xs
 printed_items AreItems.nothing fine = ([], (AreItems.nothing, refl, tt))
@@ -221,5 +220,5 @@ printed_items (AreItems.further {ts = ts} {us = us} {x = x} {xs = xs} d d2) fine
 
 -- the printed tokens of a program, where it was read from
 pub printed_program : {ts : List Bounded} {p : Program} → IsProgram ts p → AreFine ts
-    → (us : List Bounded) × (IsProgram us p × (kinds_of us ≡ program_kinds p) × AreFine us)
+    → (us : List Bounded) × (IsProgram us p × (bounded_kinds us ≡ program_kinds p) × AreFine us)
 printed_program d fine = printed_items d fine

@@ -7,10 +7,10 @@ use Rattle.c_token.specs.declared.Word.TheVariants as words
 use Rattle.c_token.specs.declared.Sign.TheVariants as signs
 use Rattle.c_grammar.specs.declared.Expr.{Expr}
 use Rattle.c_grammar.specs.declared.Stmt.{Stmt}
-use Rattle.c_grammar.specs.BoundedTokens.{Spot, Bounded, kinds_of, name, sign, word}
+use Rattle.c_grammar.specs.BoundedTokens.{Spot, Bounded, bounded_kinds, name, sign, word}
 use Rattle.c_grammar.specs.StatementGrammar.{IsType, Local, Simple, First, Step, Maybe, Statement, Body}
-use Rattle.c_grammar.specs.Printed.{in_code, in_head, type_kind, expr_kinds, maybe_kinds, head_kinds, initial_kinds, arguments_kinds, stmt_kinds, in_a_row}
-use Rattle.c_grammar.specs.TreeLaws as laws
+use Rattle.c_printer.specs.PrintedTokens.{in_code, in_head, type_kind, expr_kinds, maybe_kinds, head_kinds, initial_kinds, arguments_kinds, stmt_kinds, in_a_row}
+use Rattle.c_printer.proofs.PrintedForms as laws
 use Rattle.c_printer.proofs.FineTokens.{IsFine, AreFine, fine-append, fine-join, piece}
 use Rattle.c_printer.proofs.PrintedExpressions.{printed_expression, printed_arguments}
 
@@ -26,16 +26,16 @@ printed_type (IsType.unsigned_int at second) fine = (IsType.unsigned at, fine.0)
 
 -- what is read again, and what its tokens are
 abbrev pub PrintedLocal : ℕ → Stmt → Type 0
-PrintedLocal l x = (us : List Bounded) × (Local l us x × (kinds_of us ≡ stmt_kinds x in_head) × AreFine us)
+PrintedLocal l x = (us : List Bounded) × (Local l us x × (bounded_kinds us ≡ stmt_kinds x in_head) × AreFine us)
 
 abbrev pub PrintedFirst : ℕ → Option Stmt → Type 0
-PrintedFirst l x = (us : List Bounded) × (First l us x × (kinds_of us ≡ head_kinds (option_map stmt_kinds x)) × AreFine us)
+PrintedFirst l x = (us : List Bounded) × (First l us x × (bounded_kinds us ≡ head_kinds (option_map stmt_kinds x)) × AreFine us)
 
 abbrev pub PrintedStatement : ℕ → Stmt → Bool → Type 0
-PrintedStatement l x takes = (us : List Bounded) × (Statement l us x takes × (kinds_of us ≡ stmt_kinds x in_code) × AreFine us)
+PrintedStatement l x takes = (us : List Bounded) × (Statement l us x takes × (bounded_kinds us ≡ stmt_kinds x in_code) × AreFine us)
 
 abbrev pub PrintedBody : ℕ → List Stmt → Type 0
-PrintedBody l xs = (us : List Bounded) × (Body l us xs × (kinds_of us ≡ in_a_row (map stmt_kinds xs)) × AreFine us)
+PrintedBody l xs = (us : List Bounded) × (Body l us xs × (bounded_kinds us ≡ in_a_row (map stmt_kinds xs)) × AreFine us)
 
 pub printed_local : {l : ℕ} {ts : List Bounded} {x : Stmt} → Local l ts x → AreFine ts → PrintedLocal l x
 printed_local (Local.plain {ts = ts} {is_unsigned = is_unsigned} first at text bound d) fine =
@@ -93,7 +93,7 @@ simple_ends (Simple.check at left right bound) =
     let e = laws.stmt_kinds-Check at.place in
     ap (λ f. f in_code) e ∙ sym (ap (λ f. f in_head ++ kinds.Sign signs.Semicolon ∷ []) e)
 
-pub printed_simple : {l : ℕ} {ts : List Bounded} {x : Stmt} → Simple l ts x → kinds_of ts ≡ stmt_kinds x in_head
+pub printed_simple : {l : ℕ} {ts : List Bounded} {x : Stmt} → Simple l ts x → bounded_kinds ts ≡ stmt_kinds x in_head
 printed_simple (Simple.assign {x = x} text at equals bound d) =
     ap (λ ks. kinds.Name text ∷ kinds.Sign signs.Assign ∷ ks) (printed_expression d ∙ sym (append-nil (expr_kinds x)))
     ∙ sym (ap (λ f. f in_head) (laws.stmt_kinds-Assign text None x at.place))
@@ -115,11 +115,11 @@ printed_first First.nothing fine = ([], (First.nothing, refl, tt))
 printed_first (First.local d) fine = let r = printed_local d fine in (r.0, (First.local r.1.0, r.1.1, r.1.2))
 printed_first (First.simple {ts = ts} d) fine = (ts, (First.simple d, printed_simple d, fine))
 
-pub printed_step : {l : ℕ} {ts : List Bounded} {x : Option Stmt} → Step l ts x → kinds_of ts ≡ head_kinds (option_map stmt_kinds x)
+pub printed_step : {l : ℕ} {ts : List Bounded} {x : Option Stmt} → Step l ts x → bounded_kinds ts ≡ head_kinds (option_map stmt_kinds x)
 printed_step Step.nothing = refl
 printed_step (Step.simple d) = printed_simple d
 
-pub printed_maybe : {l : ℕ} {ts : List Bounded} {x : Option Expr} → Maybe l ts x → kinds_of ts ≡ maybe_kinds x
+pub printed_maybe : {l : ℕ} {ts : List Bounded} {x : Option Expr} → Maybe l ts x → bounded_kinds ts ≡ maybe_kinds x
 printed_maybe Maybe.nothing = refl
 printed_maybe (Maybe.given d) = printed_expression d
 

@@ -8,13 +8,13 @@ use Rattle.c_token.specs.Lexemes.{Placed, placed_all}
 use Rattle.c_token.specs.TextTokens.{tokens_of}
 use Rattle.c_token.specs.PlainText.{is_in_form, lexemes_of, plain_placed, PlainTextReadsBack}
 use Rattle.c_grammar.specs.declared.Program.{Program}
-use Rattle.c_grammar.specs.BoundedTokens.{Bounded, kinds_of, numbered, bounded_all}
-use Rattle.c_grammar.specs.Places.{limit, Reads}
+use Rattle.c_grammar.specs.BoundedTokens.{Bounded, bounded_kinds, numbered, bounded_all}
+use Rattle.c_grammar.specs.TokenPrograms.{limit, AreProgram}
 use Rattle.c_grammar.specs.ProgramGrammar.{IsProgram}
 use Rattle.c_grammar.specs.Same.{Same}
-use Rattle.c_grammar.specs.Printed.{program_kinds}
-use Rattle.c_grammar.specs.AlikeKinds.{lexemes_in, alike_numbered, numbered_limited, kinds-numbered}
-use Rattle.c_grammar.specs.AlikePrograms.{same_program}
+use Rattle.c_printer.specs.PrintedTokens.{program_kinds}
+use Rattle.c_grammar.proofs.AlikeKinds.{lexemes_in, alike_numbered, numbered_limited, kinds-numbered}
+use Rattle.c_grammar.proofs.AlikePrograms.{same_program}
 use Rattle.c_printer.specs.Printing.{program_text, IsPrintable, ReadsBack}
 use Rattle.c_printer.specs.Printable.{lexemes-placed}
 use Rattle.c_printer.proofs.FineTokens.{AreFine, fine_from, fine_limited, fine_in_form}
@@ -25,7 +25,7 @@ module _ (law : PlainTextReadsBack) (program : Program) (printable : IsPrintable
   abbrev source : List Bounded
   source = bounded_all limit (numbered 0 printable.tokens)
 
-  printed : (us : List Bounded) × (IsProgram us program × (kinds_of us ≡ program_kinds program) × AreFine us)
+  printed : (us : List Bounded) × (IsProgram us program × (bounded_kinds us ≡ program_kinds program) × AreFine us)
   printed =
       printed_program printable.reads
       (fine_from source (numbered_limited 0 printable.tokens) (ap (λ ks. list_all is_in_form (lexemes_in ks)) (kinds-numbered 0 printable.tokens) ∙ printable.in_form))
@@ -33,7 +33,7 @@ module _ (law : PlainTextReadsBack) (program : Program) (printable : IsPrintable
   in_form : list_all is_in_form (lexemes_in (program_kinds program)) ≡ true
   in_form = sym (ap (λ ks. list_all is_in_form (lexemes_in ks)) printed.1.1) ∙ fine_in_form printed.0 printed.1.2
 
-  same : (tokens : List Token) → tokens_of (program_text program) ≡ Ok (placed_all tokens) → (q : Program) × (Reads (map (λ token. token.kind) tokens) q × Same program q)
+  same : (tokens : List Token) → tokens_of (program_text program) ≡ Ok (placed_all tokens) → (q : Program) × (AreProgram (map (λ token. token.kind) tokens) q × Same program q)
   same tokens read =
       let ks = map (λ token. token.kind) tokens in
       let plain = law (lexemes_in (program_kinds program)) in_form in

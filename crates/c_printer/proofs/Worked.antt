@@ -1,7 +1,6 @@
 -- The worked program is one that the grammar gives to tokens in form.
 use Rattle.std.proofs.Common.{◌≡◌, ℕ, ◌+◌, true, false, List, [], ◌∷◌, refl, sym, subst, arith}
 use Rattle.std.specs.Prelude.{codes}
-use Rattle.arrayvec.specs.ArrayString.{ArrayString}
 use Rattle.c_token.specs.declared.Kind.{Kind}
 use Rattle.c_token.specs.declared.Kind.TheVariants as kinds
 use Rattle.c_token.specs.declared.Word.TheVariants as words
@@ -9,7 +8,7 @@ use Rattle.c_token.specs.declared.Sign.TheVariants as signs
 use Rattle.c_token.specs.Lexemes.{name}
 use Rattle.c_token.specs.PlainText.{is_in_form}
 use Rattle.c_grammar.specs.declared.expr.Expr.TheVariants.{Number}
-use Rattle.c_grammar.specs.Places.{Reads}
+use Rattle.c_grammar.specs.TokenPrograms.{AreProgram}
 use Rattle.c_grammar.specs.BoundedTokens as toks
 use Rattle.c_grammar.specs.BoundedTokens.{Spot, Bounded}
 use Rattle.c_grammar.specs.ExpressionGrammar.{Expression, Binary, Unary, Primary}
@@ -25,7 +24,7 @@ abbrev released : ℕ → List Kind → List Kind
 released value rest =
     kinds.Word words.Release ∷ kinds.Sign signs.LeftParenthesis ∷ kinds.Number value false ∷ kinds.Sign signs.RightParenthesis ∷ kinds.Sign signs.Semicolon ∷ rest
 
-abbrev worked_tokens : ArrayString → List Kind
+abbrev worked_tokens : List ℕ → List Kind
 worked_tokens main =
     kinds.Word words.Int ∷ kinds.Name main ∷ kinds.Sign signs.LeftParenthesis ∷ kinds.Word words.Void ∷ kinds.Sign signs.RightParenthesis ∷ kinds.Sign signs.LeftBrace
     ∷ released 72 (released 105 (kinds.Word words.Return ∷ kinds.Number 0 false ∷ kinds.Sign signs.Semicolon ∷ kinds.Sign signs.RightBrace ∷ []))
@@ -44,7 +43,7 @@ release_is : (value place : ℕ) → Statement 0 (release_tokens value place) (r
 release_is value place =
     Statement.simple (spot (place + 4)) (Simple.release (spot place) (spot (place + 1)) (spot (place + 3)) (omega arith) (literal 1 value (place + 2)))
 
-reads : (main : ArrayString) → Reads (worked_tokens main) (worked_program main)
+reads : (main : List ℕ) → AreProgram (worked_tokens main) (worked_program main)
 reads main =
     AreItems.further
     (IsItem.function (spot 1) (spot 2) (spot 4) (spot 5) (spot 19) main IsPrivate.nothing (IsResult.int (spot 0) (IsType.int (spot 0))) (AreParameters.void (spot 3))
@@ -55,5 +54,5 @@ reads main =
 in_form : (bytes : List ℕ) → bytes ≡ codes "main" → is_in_form (name bytes) ≡ true
 in_form bytes e = subst (λ bytes. is_in_form (name bytes) ≡ true) (sym e) refl
 
-pub worked_is_printable : (main : ArrayString) → main.bytes ≡ codes "main" → IsPrintable (worked_program main)
+pub worked_is_printable : (main : List ℕ) → main.bytes ≡ codes "main" → IsPrintable (worked_program main)
 worked_is_printable main e = record { tokens = worked_tokens main; in_form = rw (in_form main.bytes e) refl; reads = reads main }

@@ -1,6 +1,5 @@
 -- A worked program: `int main(void){release(72);release(105);return 0;}`.
 use Rattle.std.specs.Prelude.{ℕ, ◌+◌, false, [], ◌∷◌, Some}
-use Rattle.arrayvec.specs.ArrayString.{ArrayString}
 use Rattle.c_grammar.specs.declared.expr.Expr.TheVariants.{Number}
 use Rattle.c_grammar.specs.declared.Stmt.{Stmt}
 use Rattle.c_grammar.specs.declared.stmt.Stmt.TheVariants.{Release, Return}
@@ -13,6 +12,6 @@ abbrev pub release_of : ℕ → ℕ → Stmt
 release_of value token = Release (Number value false (token + 2)) token
 
 -- the program, with its name
-abbrev pub worked_program : ArrayString → Program
+abbrev pub worked_program : List ℕ → Program
 worked_program main =
     record { items = Function false Int main [] (release_of 72 6 ∷ release_of 105 11 ∷ Return (Some (Number 0 false 17)) 16 ∷ []) 1 ∷ [] }

@@ -1,3 +1,4 @@
+pub mod PrintedTokens
 pub mod Printing
 pub mod Examples
 pub mod Printable

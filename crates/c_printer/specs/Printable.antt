@@ -7,8 +7,8 @@ use Rattle.c_token.specs.Lexemes.{lexeme_of, placed_all}
 use Rattle.c_token.specs.TextTokens.{tokens_of}
 use Rattle.c_token.specs.PlainText.{is_in_form, lexemes_of, TokensAreInForm}
 use Rattle.c_grammar.specs.declared.Program.{Program}
-use Rattle.c_grammar.specs.Places.{Reads}
-use Rattle.c_grammar.specs.AlikeKinds.{lexemes_in}
+use Rattle.c_grammar.specs.TokenPrograms.{AreProgram}
+use Rattle.c_grammar.proofs.AlikeKinds.{lexemes_in}
 use Rattle.c_printer.specs.Printing.{IsPrintable}
 
 -- the lexemes of tokens, from their kinds
@@ -18,7 +18,7 @@ lexemes-placed (token ∷ tokens) = ap (λ lexemes. lexeme_of token.kind ∷ lex
 
 -- The tokens of a text are in form, as the law of tokens says, so a program that they are can be printed.
 pub read_is_printable : TokensAreInForm → (text : List ℕ) (tokens : List Token) (program : Program) → tokens_of text ≡ Ok (placed_all tokens)
-    → Reads (map (λ token. token.kind) tokens) program → IsPrintable program
+    → AreProgram (map (λ token. token.kind) tokens) program → IsPrintable program
 read_is_printable law text tokens program read reads =
     record {
       tokens = map (λ token. token.kind) tokens;

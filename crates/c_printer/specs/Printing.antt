@@ -1,7 +1,6 @@
 -- The text that a program is printed as.
 use Rattle.std.specs.Prelude.{◌≡◌, ℕ, List, [], ◌∷◌, ◌++◌, map, true, Option, Ok, IsOk, ◌==◌, if◌then◌else◌}
 use Rattle.std.specs.List.{flat_map, list_all}
-use Rattle.arrayvec.specs.ArrayString.{ArrayString}
 use Rattle.c_token.specs.declared.kinds.Kind.{Kind}
 use Rattle.c_token.specs.declared.kinds.Kind.TheVariants as kinds
 use Rattle.c_token.specs.declared.words.Word.TheVariants as words
@@ -12,10 +11,10 @@ use Rattle.c_token.specs.PlainText.{plain_spelling, plain_text, is_in_form}
 use Rattle.c_token.specs.TextTokens.{tokens_of}
 use Rattle.c_grammar.specs.declared.Expr.{Expr}
 use Rattle.c_grammar.specs.declared.Program.{Program}
-use Rattle.c_grammar.specs.Places.{Reads}
+use Rattle.c_grammar.specs.TokenPrograms.{AreProgram}
 use Rattle.c_grammar.specs.Same.{Same}
-use Rattle.c_grammar.specs.AlikeKinds.{lexemes_in}
-use Rattle.c_grammar.specs.Printed.{maybe_kinds, behind_commas, program_kinds}
+use Rattle.c_grammar.proofs.AlikeKinds.{lexemes_in}
+use Rattle.c_printer.specs.PrintedTokens.{maybe_kinds, behind_commas, program_kinds}
 
 -- the plain spelling of a token, and a space, which is 32
 unfoldable pub spelled : Kind → List ℕ
@@ -41,7 +40,7 @@ abbrev pub head_end_kinds : Option Expr → List Kind → List Kind
 head_end_kinds test step = maybe_kinds test ++ (kinds.Sign signs.Semicolon ∷ (step ++ kinds.Sign signs.RightParenthesis ∷ []))
 
 -- a function of the untrusted code
-abbrev pub untrusted_kinds : ArrayString → List Kind
+abbrev pub untrusted_kinds : List ℕ → List Kind
 untrusted_kinds name =
     kinds.Word words.Untrusted ∷ kinds.Word words.Void ∷ kinds.Name name ∷ kinds.Sign signs.LeftParenthesis ∷ kinds.Word words.Void ∷ kinds.Sign signs.RightParenthesis ∷ kinds.Sign signs.Semicolon ∷ []
 
@@ -62,9 +61,9 @@ program_text program = plain_text (map lexeme_of (program_kinds program))
 pub record IsPrintable (program : Program) : Type 0 where
   pub tokens : List Kind
   pub in_form : list_all is_in_form (lexemes_in tokens) ≡ true
-  pub reads : Reads tokens program
+  pub reads : AreProgram tokens program
 
 -- The text has tokens, and they are a program that differs from this one in token numbers alone, with no level above the limit.
 pub record ReadsBack (program : Program) (text : List ℕ) : Type 0 where
   pub has_tokens : IsOk (tokens_of text)
-  pub same : (tokens : List Token) → tokens_of text ≡ Ok (placed_all tokens) → (q : Program) × (Reads (map (λ token. token.kind) tokens) q × Same program q)
+  pub same : (tokens : List Token) → tokens_of text ≡ Ok (placed_all tokens) → (q : Program) × (AreProgram (map (λ token. token.kind) tokens) q × Same program q)

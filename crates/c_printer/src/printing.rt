@@ -1,7 +1,7 @@
 //! Programs as texts.
 ghost use Rattle.std.specs.Prelude.{◌≡◌, ◌++◌, IfOk, OnOk};
 ghost use Rattle.c_token.specs.declared.Kind.TheVariants as kinds;
-ghost use Rattle.c_grammar.specs.Printed.{type_kind};
+ghost use Rattle.c_printer.specs.PrintedTokens.{type_kind};
 ghost use Rattle.c_printer.specs.Printing.{spelled, spelled_all, commas_before, program_text, IsPrintable, ReadsBack};
 
 mod expressions;

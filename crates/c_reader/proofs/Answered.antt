@@ -3,12 +3,12 @@ use Rattle.std.proofs.Common.{◌≡◌, ℕ, zero, suc, ◌+◌, ◌<◌, ◌�
 use Rattle.std.proofs.lemmas.List.{map-append}
 use Rattle.c_token.specs.declared.kinds.Kind.{Kind}
 use Rattle.c_grammar.specs.declared.item.Program.{Program}
-use Rattle.c_grammar.specs.BoundedTokens.{Tok, Bounded, tok_of, toks_of, kinds_of, numbered, bounded_all}
+use Rattle.c_grammar.specs.BoundedTokens.{Tok, Bounded, tok_of, toks_of, bounded_kinds, numbered, bounded_all}
 use Rattle.c_grammar.specs.ProgramGrammar.{IsProgram}
-use Rattle.c_grammar.specs.Places.{Reads, AreLimited, IsText, BeginsWithin, Begins, IsExpectedAt, IsDeepAt, IsShallowBefore}
-use Rattle.c_grammar.specs.Alike.{AllAlike, none_left, one_more}
-use Rattle.c_grammar.specs.AlikeKinds.{alike, kinds-numbered}
-use Rattle.c_grammar.specs.AlikePrograms.{same_program}
+use Rattle.c_grammar.specs.TokenPrograms.{AreProgram, AreLimited, IsUnlimitedProgram, BeginsWithin, Begins, IsExpectedAt, IsDeepAt, IsShallowBefore}
+use Rattle.c_grammar.proofs.Alike.{AllAlike, none_left, one_more}
+use Rattle.c_grammar.proofs.AlikeKinds.{alike, kinds-numbered}
+use Rattle.c_grammar.proofs.AlikePrograms.{same_program}
 use Rattle.c_reader.specs.declared.error.SyntaxError.{SyntaxError}
 use Rattle.c_reader.specs.declared.error.SyntaxError.TheVariants as error
 use Rattle.c_parser.specs.Parser.{Reason, expected, deep, exhausted, Outcome, done, stop}
@@ -34,7 +34,7 @@ unfolding replaced
 alike_replaced n [] = none_left
 alike_replaced n (t ∷ ts) = one_more (alike t.spot (record { place = n; bound = t.spot.bound }) t.kind t.kind (omega arith) refl) (alike_replaced (suc n) ts)
 
-toks_replaced : (n : ℕ) (ts : List Bounded) → toks_of (replaced n ts) ≡ numbered n (kinds_of ts)
+toks_replaced : (n : ℕ) (ts : List Bounded) → toks_of (replaced n ts) ≡ numbered n (bounded_kinds ts)
 unfolding replaced
 toks_replaced n [] = refl
 toks_replaced n (t ∷ ts) = ap (λ s. record { place = n; kind = t.kind } ∷ s) (toks_replaced (suc n) ts)
@@ -147,12 +147,12 @@ record Late (tokens : List Bounded) : Type 0 where
   after : List Bounded
   parts : replaced 0 tokens ≡ before ++ t ∷ after
   above : 64 < t.spot.bound
-  outcome : read (numbered 0 (kinds_of tokens)) ≡ stop deep (tok_of t ∷ toks_of after)
+  outcome : read (numbered 0 (bounded_kinds tokens)) ≡ stop deep (tok_of t ∷ toks_of after)
 
 Understood : List Bounded → Type 0
-Understood tokens = ((p : Program) × (read (numbered 0 (kinds_of tokens)) ≡ done p [])) ⊎ Late tokens
+Understood tokens = ((p : Program) × (read (numbered 0 (bounded_kinds tokens)) ≡ done p [])) ⊎ Late tokens
 
-to_cases : (tokens : List Bounded) (p : Program) (o : Outcome Program) → read (numbered 0 (kinds_of tokens)) ≡ o → To 64 (replaced 0 tokens) [] (done p []) o → Understood tokens
+to_cases : (tokens : List Bounded) (p : Program) (o : Outcome Program) → read (numbered 0 (bounded_kinds tokens)) ≡ o → To 64 (replaced 0 tokens) [] (done p []) o → Understood tokens
 unfolding Understood
 to_cases tokens p o e arrives = inl (p, e)
 to_cases tokens p o e (late before t after q h) = inr record { before = before; t = t; after = after; parts = q; above = h; outcome = e ∙ ap (λ s. stop deep (tok_of t ∷ s)) (append-nil (toks_of after)) }
@@ -197,11 +197,11 @@ stopped_go reason kinds rest (stops h) = stopped_from reason kinds rest h
 stopped : (reason : Reason) (kinds : List Kind) (rest : List Tok) → read (numbered 0 kinds) ≡ stop reason rest → Stopped reason kinds rest
 stopped reason kinds rest e = stopped_go reason kinds rest (subst (λ o. Holds 64 (program 64 64) IsProgram (numbered 0 kinds) o) e (program_at 64 64 refl (numbered 0 kinds)))
 
-reached_go : (kinds : List Kind) (p : Program) → Holds 64 (program 64 64) IsProgram (numbered 0 kinds) (done p []) → Reads kinds p
+reached_go : (kinds : List Kind) (p : Program) → Holds 64 (program 64 64) IsProgram (numbered 0 kinds) (done p []) → AreProgram kinds p
 reached_go kinds p (reaches h) = subst (λ used. IsProgram (bounded_all 64 used) p) (sym (h.split ∙ append-nil h.used)) h.means
 
 -- what is read is the program of the tokens
-pub reads : (kinds : List Kind) (p : Program) → read (numbered 0 kinds) ≡ done p [] → Reads kinds p
+pub reads : (kinds : List Kind) (p : Program) → read (numbered 0 kinds) ≡ done p [] → AreProgram kinds p
 reads kinds p e = reached_go kinds p (subst (λ o. Holds 64 (program 64 64) IsProgram (numbered 0 kinds) o) e (program_at 64 64 refl (numbered 0 kinds)))
 
 -- no token nests too deep in what keeps the limits
@@ -220,7 +220,7 @@ read_go kinds p o arrives = refl
 read_go kinds p o (late before t after e h) = absurd (omega (arith, h, no_late 0 (numbered 0 kinds) before t after e))
 
 -- the program of the tokens is read
-pub is_read : (kinds : List Kind) (p : Program) → Reads kinds p → read (numbered 0 kinds) ≡ done p []
+pub is_read : (kinds : List Kind) (p : Program) → AreProgram kinds p → read (numbered 0 kinds) ≡ done p []
 is_read kinds p h = ap read (sym (append-nil (toks_of (bounded_all 64 (numbered 0 kinds))) ∙ toks_bounded (numbered 0 kinds)))
     ∙ read_go kinds p (read (toks_of (bounded_all 64 (numbered 0 kinds)) ++ [])) (program_goes 64 64 refl (bounded_all 64 (numbered 0 kinds)) p h)
 
@@ -237,15 +237,15 @@ limited_front place js more zero h = tt
 limited_front place [] more (suc n) h = absurd (omega (arith, h))
 limited_front place (j ∷ js) more (suc n) h = (omega arith, limited_front (suc place) js more n (omega (arith, h)))
 
-kinds_front : (js : List Kind) (more : List Bounded) → kinds_of (bounded_all 64 (numbered 0 js) ++ more) ≡ js ++ kinds_of more
-kinds_front js more = map-append (λ t. t.kind) (bounded_all 64 (numbered 0 js)) more ∙ ap (λ ks. ks ++ kinds_of more) (kinds-numbered 0 js)
+kinds_front : (js : List Kind) (more : List Bounded) → bounded_kinds (bounded_all 64 (numbered 0 js) ++ more) ≡ js ++ bounded_kinds more
+kinds_front js more = map-append (λ t. t.kind) (bounded_all 64 (numbered 0 js)) more ∙ ap (λ ks. ks ++ bounded_kinds more) (kinds-numbered 0 js)
 
 begins_front : (js : List Kind) (more : List Bounded) (tree : Program) → IsProgram (bounded_all 64 (numbered 0 js) ++ more) tree → (kept : ℕ) → kept ≤ length js → (n : ℕ) → BeginsWithin kept (take n js)
 begins_front js more tree h kept l n = (
   bounded_all 64 (numbered 0 js) ++ more,
   tree,
-  drop n js ++ kinds_of more,
-  kinds_front js more ∙ ap (λ ks. ks ++ kinds_of more) (sym (take-append-drop n js)) ∙ append_assoc (take n js) (drop n js) (kinds_of more),
+  drop n js ++ bounded_kinds more,
+  kinds_front js more ∙ ap (λ ks. ks ++ bounded_kinds more) (sym (take-append-drop n js)) ∙ append_assoc (take n js) (drop n js) (bounded_kinds more),
   limited_front 0 js more kept l,
   h,
 )
@@ -278,10 +278,10 @@ again_at : (reason : Reason) (kinds : List Kind) (rest : List Tok) (s : Stopped 
 again_at reason kinds rest s x ks more e = ap read (numbered-append 0 s.js (x ∷ more))
     ∙ s.again (numbered (0 + length s.js) (x ∷ more)) (subst (λ ks. Alike (numbered (0 + length s.js) ks) (numbered (0 + length s.js) (x ∷ more))) (sym e) refl)
 
-not_expected : (tokens : List Bounded) (r : List Tok) → read (numbered 0 (kinds_of tokens)) ≡ stop expected r → Understood tokens → ⊥
+not_expected : (tokens : List Bounded) (r : List Tok) → read (numbered 0 (bounded_kinds tokens)) ≡ stop expected r → Understood tokens → ⊥
 unfolding Understood
 not_expected tokens r e (inl d) = done_expected (sym d.1 ∙ e)
-not_expected tokens r e (inr h) = deep_expected (read (numbered 0 (kinds_of tokens))) (tok_of h.t ∷ toks_of h.after) r h.outcome e
+not_expected tokens r e (inr h) = deep_expected (read (numbered 0 (bounded_kinds tokens))) (tok_of h.t ∷ toks_of h.after) r h.outcome e
 
 -- a token with which no program goes on
 no_begin : (kinds : List Kind) (rest : List Tok) (s : Stopped expected kinds rest) (x : Kind) (ks : List Kind) → s.ks ≡ x ∷ ks → (kept : ℕ) → BeginsWithin kept (s.js ++ x ∷ []) → ⊥
@@ -289,7 +289,7 @@ no_begin kinds rest s x ks e kept b = not_expected b.0 (numbered (0 + length s.j
     (ap (λ ks. read (numbered 0 ks)) (b.3 ∙ append_assoc s.js (x ∷ []) b.2) ∙ again_at expected kinds rest s x ks b.2 e) (understood b.0 b.1 b.5)
 
 begins_all : (js : List Kind) (more : List Bounded) (tree : Program) → IsProgram (bounded_all 64 (numbered 0 js) ++ more) tree → (kept : ℕ) → kept ≤ length js → BeginsWithin kept js
-begins_all js more tree h kept l = (bounded_all 64 (numbered 0 js) ++ more, tree, kinds_of more, kinds_front js more, limited_front 0 js more kept l, h)
+begins_all js more tree h kept l = (bounded_all 64 (numbered 0 js) ++ more, tree, bounded_kinds more, kinds_front js more, limited_front 0 js more kept l, h)
 
 expected_next : (kinds : List Kind) (rest : List Tok) (s : Stopped expected kinds rest) (x : Kind) (ks : List Kind) → s.ks ≡ x ∷ ks → IsExpectedAt kinds (length s.js)
 expected_next kinds rest s x ks e =
@@ -301,7 +301,7 @@ expected_next kinds rest s x ks e =
     )
 
 -- the text ends too soon
-no_text : (kinds : List Kind) (rest : List Tok) (s : Stopped expected kinds rest) → s.ks ≡ [] → IsText kinds → ⊥
+no_text : (kinds : List Kind) (rest : List Tok) (s : Stopped expected kinds rest) → s.ks ≡ [] → IsUnlimitedProgram kinds → ⊥
 no_text kinds rest s e t = not_expected t.0 [] (ap (λ ks. read (numbered 0 ks)) (t.2 ∙ s.whole ∙ ap (λ ks. s.js ++ ks) e ∙ append-nil s.js)
     ∙ ap read (sym (append-nil (numbered 0 s.js))) ∙ s.again [] (subst (λ ks. Alike (numbered (0 + length s.js) ks) []) (sym e) tt)) (understood t.0 t.1 t.3)
 
@@ -330,7 +330,7 @@ refused_expected kinds rest e =
 
 -- a token that nests too deep
 not_limited : (tokens : List Bounded) (j : ℕ) (r : List Tok) (place : ℕ) (x : Kind) → place ≡ j → AreLimited (take (suc j) tokens)
-    → read (numbered 0 (kinds_of tokens)) ≡ stop deep (record { place = place; kind = x } ∷ r) → Understood tokens → ⊥
+    → read (numbered 0 (bounded_kinds tokens)) ≡ stop deep (record { place = place; kind = x } ∷ r) → Understood tokens → ⊥
 unfolding Understood left_of
 not_limited tokens j r place x q a e (inl d) = done_deep (sym d.1 ∙ e)
 not_limited tokens j r place x q a e (inr h) =
@@ -353,8 +353,8 @@ begins_deep : (js : List Kind) (x : Kind) (ks : List Kind) (more : List Bounded)
 begins_deep js x ks (m ∷ more) tree h o = (
   bounded_all 64 (numbered 0 js) ++ m ∷ more,
   tree,
-  kinds_of more,
-  kinds_front js (m ∷ more) ∙ ap (λ k. js ++ k ∷ kinds_of more) (ap (λ t. t.kind) o) ∙ sym (append_assoc js (x ∷ []) (kinds_of more)),
+  bounded_kinds more,
+  kinds_front js (m ∷ more) ∙ ap (λ k. js ++ k ∷ bounded_kinds more) (ap (λ t. t.kind) o) ∙ sym (append_assoc js (x ∷ []) (bounded_kinds more)),
   limited_front 0 js (m ∷ more) (length js) (omega arith),
   h,
 )
@@ -385,7 +385,7 @@ refused_deep kinds rest e =
 
 -- what the answer of a whole text says
 pub answered : (kinds : List Kind) (r : Result Program SyntaxError) → Answers r (length kinds) (program 64 64 (numbered 0 kinds))
-    → IfOk r (Reads kinds) × IfErr r (IsRefusedAs kinds)
+    → IfOk r (AreProgram kinds) × IfErr r (IsRefusedAs kinds)
 answered kinds (Ok p) e = (reads kinds p e, tt)
 answered kinds (Err (error.Expected k)) e = (tt, subst (λ k. IsExpectedAt kinds k × IsShallowBefore kinds k) (sym e.2) (refused_expected kinds e.0 e.1))
 answered kinds (Err (error.Deep k)) e = (tt, subst (λ k. IsDeepAt kinds k) (sym e.2) (refused_deep kinds e.0 e.1))

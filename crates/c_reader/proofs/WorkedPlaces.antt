@@ -6,7 +6,7 @@ use Rattle.c_token.specs.declared.kinds.Kind.TheVariants.{Name, Number, Word, Si
 use Rattle.c_token.specs.declared.words.Word.TheVariants as w
 use Rattle.c_token.specs.declared.signs.Sign.TheVariants as s
 use Rattle.c_grammar.specs.BoundedTokens.{Tok, numbered}
-use Rattle.c_grammar.specs.Places.{IsExpectedAt, IsDeepAt, IsShallowBefore}
+use Rattle.c_grammar.specs.TokenPrograms.{IsExpectedAt, IsDeepAt, IsShallowBefore}
 use Rattle.c_parser.specs.Parser.{expected, deep, done, stop, Outcome, sign, word, name, number, many, all, behind_comma, separated, is_at_sign, is_at_word}
 use Rattle.c_parser.specs.Expressions.{operator_at, joined, chain, chained, binary, expression, paren, subscript, listed, arguments, indexed, called, behind_name, named, literal, input, primary, signed, unary_in, inside, unary}
 use Rattle.c_parser.specs.Statements as st

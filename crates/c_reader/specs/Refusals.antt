@@ -1,7 +1,7 @@
 -- Why a list of tokens is refused, and with which answer.
 use Rattle.std.specs.Prelude.{◌≡◌, List}
 use Rattle.c_token.specs.declared.kinds.Kind.{Kind}
-use Rattle.c_grammar.specs.Places.{Reads, IsExpectedAt, IsDeepAt, IsShallowBefore}
+use Rattle.c_grammar.specs.TokenPrograms.{AreProgram, IsExpectedAt, IsDeepAt, IsShallowBefore}
 use Rattle.c_grammar.specs.declared.item.Program.{Program}
 use Rattle.c_reader.specs.declared.error.SyntaxError.{SyntaxError}
 use Rattle.c_reader.specs.declared.error.SyntaxError.TheVariants.{Expected, Deep, OutOfMemory}
@@ -15,4 +15,4 @@ IsRefusedAs kinds OutOfMemory = Unit {0}
 
 -- tokens are one program
 abbrev pub OneProgram : Type 0
-OneProgram = (kinds : List Kind) (p q : Program) → Reads kinds p → Reads kinds q → p ≡ q
+OneProgram = (kinds : List Kind) (p q : Program) → AreProgram kinds p → AreProgram kinds q → p ≡ q

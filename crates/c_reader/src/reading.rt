@@ -1,6 +1,6 @@
 //! The reader of programs.
 ghost use Rattle.std.specs.Prelude.{◌≡◌, ◌≤◌, length, map, IfOk, IfErr};
-ghost use Rattle.c_grammar.specs.Places.{Reads};
+ghost use Rattle.c_grammar.specs.TokenPrograms.{AreProgram};
 ghost use Rattle.c_parser.specs.Toks.{numbered, kinds_of};
 ghost use Rattle.c_reader.specs.Programs.{program};
 ghost use Rattle.c_reader.specs.Reads.{Answers};
@@ -49,7 +49,7 @@ fn answer(alloc: Global, tokens: &[Token]) -> Result<Program, SyntaxError>
 pub fn read_program(alloc: Global, tokens: &[Token]) -> Result<Program, SyntaxError>
     requires { length tokens.now ≤ MAX_SOURCE_BYTES }
     // What is read is the program of these tokens, within the limits.
-    ensures read { IfOk result (λ p. Reads (map (λ t. t.kind) tokens.now) p) }
+    ensures read { IfOk result (λ p. AreProgram (map (λ t. t.kind) tokens.now) p) }
     // What is refused is no program, and the fault stands where it is said to stand.
     ensures refused { IfErr result (IsRefusedAs (map (λ t. t.kind) tokens.now)) }
 {

@@ -3,7 +3,7 @@ use Rattle.std.proofs.Common.{◌≡◌, ℕ, List, Ok, subst}
 use Rattle.c_token.specs.declared.kinds.Token.{Token}
 use Rattle.c_token.specs.Lexemes.{placed_all}
 use Rattle.c_token.specs.TextTokens.{tokens_of}
-use Rattle.c_grammar.specs.Places.{Reads}
+use Rattle.c_grammar.specs.TokenPrograms.{AreProgram}
 use Rattle.c_reader.specs.Refusals.{OneProgram}
 use Rattle.c_text.specs.Texts.{kinds_in}
 use Rattle.c_text.specs.Unused.{blank}
@@ -19,7 +19,7 @@ same_tokens text ts us e f = cc
 pub one_blank : OneProgram → OneBlank
 one_blank one text p q a b =
     one (blank_kinds (kinds_in b.tokens)) (blank p) (blank q)
-    (subst (λ ks. Reads ks (blank p)) (kinds-alike a.tokens b.tokens (same_tokens text a.tokens b.tokens a.lexed b.lexed)) (read_program (kinds_in a.tokens) p a.read))
+    (subst (λ ks. AreProgram ks (blank p)) (kinds-alike a.tokens b.tokens (same_tokens text a.tokens b.tokens a.lexed b.lexed)) (read_program (kinds_in a.tokens) p a.read))
     (read_program (kinds_in b.tokens) q b.read)
 
 pub typed_alike : OneProgram → TypedAlike

@@ -6,7 +6,7 @@ use Rattle.c_token.specs.declared.kinds.TokenError.{TokenError}
 use Rattle.c_token.specs.Lexemes.{placed_all}
 use Rattle.c_token.specs.TextTokens.{tokens_of}
 use Rattle.c_grammar.specs.declared.item.Program.{Program}
-use Rattle.c_grammar.specs.Places.{Reads}
+use Rattle.c_grammar.specs.TokenPrograms.{AreProgram}
 use Rattle.c_reader.specs.declared.error.SyntaxError.{SyntaxError}
 use Rattle.c_reader.specs.Refusals.{IsRefusedAs}
 use Rattle.c_types.specs.declared.error.TypeError.{TypeError}
@@ -24,7 +24,7 @@ kinds_in tokens = map (λ token. token.kind) tokens
 pub record IsText (text : List ℕ) (program : Program) : Type 0 where
   pub tokens : List Token
   pub lexed : HasTokens text tokens
-  pub read : Reads (kinds_in tokens) program
+  pub read : AreProgram (kinds_in tokens) program
 
 -- a text has no tokens, for this fault
 abbrev pub HasTokenFault : List ℕ → TokenError → Type 0

@@ -11,7 +11,7 @@ use Rattle.c_grammar.specs.declared.item.Item.{Item}
 use Rattle.c_grammar.specs.declared.item.Program.{Program}
 use Rattle.c_grammar.specs.BoundedTokens.{Bounded, name, sign}
 use Rattle.c_grammar.specs.ProgramGrammar.{IsStorage, IsLength, IsValue, AreValues, AreInitial, IsResult, IsParameter, AreListed, AreParameters, IsPrivate, IsItem, AreItems}
-use Rattle.c_grammar.specs.Places.{limit, Reads}
+use Rattle.c_grammar.specs.TokenPrograms.{limit, AreProgram}
 use Rattle.c_text.specs.Unused.{blank_name, blank_parameter, blank_parameters, blank_item, blank_items, blank}
 use Rattle.c_text.specs.UnusedKinds.{blank_token, blank_tokens, blank_kinds, tokens-numbered}
 use Rattle.c_text.specs.UnusedStatements.{read_type, read_body}
@@ -90,5 +90,5 @@ read_items AreItems.nothing = AreItems.nothing
 read_items (AreItems.further {ts = ts} {us = us} d d2) = rw (map-append blank_token ts us) (AreItems.further (read_item d) (read_items d2))
 
 -- what tokens are read as
-pub read_program : (ks : List Kind) (p : Program) → Reads ks p → Reads (blank_kinds ks) (blank p)
+pub read_program : (ks : List Kind) (p : Program) → AreProgram ks p → AreProgram (blank_kinds ks) (blank p)
 read_program ks p d = subst (λ ts. AreItems ts (blank_items p.items)) (tokens-numbered limit 0 ks) (read_items d)

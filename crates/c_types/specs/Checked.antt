@@ -10,7 +10,7 @@ use Rattle.c_grammar.specs.declared.item.Kind3.TheVariants.{Int, Unsigned, Void}
 use Rattle.c_grammar.specs.declared.item.Item.{Item}
 use Rattle.c_grammar.specs.declared.item.Item.TheVariants as item
 use Rattle.c_grammar.specs.declared.item.Program.{Program}
-use Rattle.c_grammar.specs.Places.{Reads}
+use Rattle.c_grammar.specs.TokenPrograms.{AreProgram}
 use Rattle.c_types.specs.declared.error.TypeError.{TypeError}
 use Rattle.c_types.specs.declared.error.TypeError.TheVariants as error
 use Rattle.c_types.specs.declared.site.Rule.{Rule}
@@ -22,7 +22,7 @@ use Rattle.c_types.specs.Rules.{Violates, IsFirst}
 
 -- the grammar gives the program to some tokens, at most as many as a source has bytes, and no level is above the limit
 abbrev pub IsRead : Program → Type 0
-IsRead p = (kinds : List Kind) × (length kinds ≤ MAX_SOURCE_BYTES) × Reads kinds p
+IsRead p = (kinds : List Kind) × (length kinds ≤ MAX_SOURCE_BYTES) × AreProgram kinds p
 
 -- no rule is broken
 abbrev pub KeepsRules : Program → Type 0

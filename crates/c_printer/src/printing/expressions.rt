@@ -1,6 +1,6 @@
 //! Expressions as texts.
 ghost use Rattle.std.specs.Prelude.{◌≡◌, ◌++◌, OnOk};
-ghost use Rattle.c_grammar.specs.Printed.{expr_kinds, arguments_kinds};
+ghost use Rattle.c_printer.specs.PrintedTokens.{expr_kinds, arguments_kinds};
 ghost use Rattle.c_printer.specs.Printing.{spelled_all};
 
 use crate::printing::Printer;

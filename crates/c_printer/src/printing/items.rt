@@ -3,7 +3,7 @@ ghost use Rattle.std.specs.Prelude.{◌≡◌, ◌++◌, ◌∷◌, [], OnOk, ma
 ghost use Rattle.c_token.specs.declared.Kind.TheVariants as kinds;
 ghost use Rattle.c_token.specs.declared.Word.TheVariants as words;
 ghost use Rattle.c_token.specs.declared.Sign.TheVariants as signs;
-ghost use Rattle.c_grammar.specs.Printed.{items_kinds, item_kinds, storage_kinds, length_kinds, value_kinds, values_kinds, result_kind, parameter_kinds, parameters_kinds, with_commas};
+ghost use Rattle.c_printer.specs.PrintedTokens.{items_kinds, item_kinds, storage_kinds, length_kinds, value_kinds, values_kinds, result_kind, parameter_kinds, parameters_kinds, with_commas};
 ghost use Rattle.c_printer.specs.Printing.{spelled, spelled_all, untrusted_kinds};
 
 use crate::printing::Printer;

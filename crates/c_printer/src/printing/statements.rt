@@ -3,7 +3,7 @@ ghost use Rattle.std.specs.Prelude.{◌≡◌, ◌++◌, ◌∷◌, OnOk, map, o
 ghost use Rattle.c_token.specs.declared.Kind.TheVariants as kinds;
 ghost use Rattle.c_token.specs.declared.Word.TheVariants as words;
 ghost use Rattle.c_token.specs.declared.Sign.TheVariants as signs;
-ghost use Rattle.c_grammar.specs.Printed.{in_code, in_head, stmt_kinds, expr_kinds, type_kind, arguments_kinds, initial_kinds, maybe_kinds, subscript_kinds, block_kinds, head_kinds, else_kinds};
+ghost use Rattle.c_printer.specs.PrintedTokens.{in_code, in_head, stmt_kinds, expr_kinds, type_kind, arguments_kinds, initial_kinds, maybe_kinds, subscript_kinds, block_kinds, head_kinds, else_kinds};
 ghost use Rattle.c_printer.specs.Printing.{spelled_all, no_arguments, between, head_begin_kinds, head_end_kinds};
 
 use crate::printing::Printer;

@@ -1,6 +1,6 @@
 use Rattle.std.proofs.Common.{◌≡◌, ◌-◌, ◌++◌, length, take, sym, ap, subst, ◌∙◌, arith}
 use Rattle.std.specs.Vec.{vec_len}
-use Rattle.c_grammar.specs.Printed.{items_kinds, program_kinds}
+use Rattle.c_printer.specs.PrintedTokens.{items_kinds, program_kinds}
 use Rattle.c_printer.specs.Printing.{spelled_all, program_text, ReadsBack}
 use Rattle.c_printer.proofs.PlainEnds.{without_last}
 use Rattle.c_printer.proofs.ReadsBack.{reads_back}

@@ -1,15 +1,14 @@
 use Rattle.std.proofs.Common.{◌≡◌, ℕ, List, Option, Some, Result, Ok, Err, sym, subst}
 use Rattle.std.specs.Prelude.{IfOk}
 use Rattle.std.specs.Result.{result_ok}
-use Rattle.arrayvec.specs.ArrayString.{ArrayString}
 use Rattle.c_printer.specs.Printing.{IsPrintable}
 use Rattle.c_printer.proofs.Worked.{worked_is_printable}
 use Rattle.c_printer.proofs.tests.prints_a_program.Goals as goal
 
 -- the text that a name was made of
-named : {E : Type 0} (r : Result ArrayString E) (o : Option ArrayString) (text : ArrayString) (bytes : List ℕ) → IfOk r (λ t. t.bytes ≡ bytes) → o ≡ result_ok r → o ≡ Some text
+named : {E : Type 0} (r : Result (List ℕ) E) (o : Option (List ℕ)) (text : List ℕ) (bytes : List ℕ) → IfOk r (λ t. t.bytes ≡ bytes) → o ≡ result_ok r → o ≡ Some text
     → text.bytes ≡ bytes
-named (Ok t) o text bytes ok value some = let same : t ≡ text = cc in subst (λ (t : ArrayString). t.bytes ≡ bytes) same ok
+named (Ok t) o text bytes ok value some = let same : t ≡ text = cc in subst (λ (t : List ℕ). t.bytes ≡ bytes) same ok
 named (Err e) o text bytes ok value some = cc
 
 pub print_program-requires : goal.print_program-requires

@@ -1,6 +1,6 @@
 use Rattle.std.proofs.Common.{◌≡◌, ◌++◌, drop}
 use Rattle.std.specs.Prelude.{map}
-use Rattle.c_grammar.specs.Printed.{expr_kinds, with_commas}
+use Rattle.c_printer.specs.PrintedTokens.{expr_kinds, with_commas}
 use Rattle.c_printer.specs.Printing.{spelled_all, parts_from}
 use Rattle.c_printer.proofs.printing.Printer.+expressions.Given as goal
 

@@ -1,6 +1,6 @@
 use Rattle.std.proofs.Common.{◌≡◌, ◌++◌, drop}
 use Rattle.std.specs.Prelude.{map}
-use Rattle.c_grammar.specs.Printed.{stmt_kinds, in_a_row}
+use Rattle.c_printer.specs.PrintedTokens.{stmt_kinds, in_a_row}
 use Rattle.c_printer.specs.Printing.{spelled_all}
 use Rattle.c_printer.proofs.printing.Printer.+statements.Given as goal
 

@@ -1,5 +1,5 @@
 use Rattle.std.proofs.Common.{◌≡◌, ◌++◌, drop}
-use Rattle.c_grammar.specs.Printed.{items_kinds}
+use Rattle.c_printer.specs.PrintedTokens.{items_kinds}
 use Rattle.c_printer.specs.Printing.{spelled_all}
 use Rattle.c_printer.proofs.printing.Printer.items.Given as goal
 

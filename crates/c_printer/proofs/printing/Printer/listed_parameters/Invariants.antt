@@ -1,6 +1,6 @@
 use Rattle.std.proofs.Common.{◌≡◌, ◌++◌, drop}
 use Rattle.std.specs.Prelude.{map}
-use Rattle.c_grammar.specs.Printed.{parameter_kinds, with_commas}
+use Rattle.c_printer.specs.PrintedTokens.{parameter_kinds, with_commas}
 use Rattle.c_printer.specs.Printing.{spelled_all, parts_from}
 use Rattle.c_printer.proofs.printing.Printer.listed_parameters.Given as goal
 

@@ -2,7 +2,6 @@
 use Rattle.std.proofs.Common.{◌≡◌, ℕ, Bool, List, Option, None, Some, sym, ap, ◌∙◌}
 use Rattle.std.specs.Prelude.{map}
 use Rattle.std.specs.Option.{option_map}
-use Rattle.arrayvec.specs.ArrayString.{ArrayString}
 use Rattle.c_token.specs.declared.kinds.Kind.{Kind}
 use Rattle.c_token.specs.declared.signs.Sign.{Sign}
 use Rattle.c_grammar.specs.declared.expr.Expr.{Expr}
@@ -13,18 +12,18 @@ use Rattle.c_grammar.specs.declared.stmt.Stmt.{Stmt}
 use Rattle.c_grammar.specs.declared.stmt.Stmt.TheVariants as stmts
 use Rattle.c_grammar.specs.declared.stmt.Stmt.TheOpen.{Stmt-F}
 use Rattle.c_grammar.specs.declared.stmt.Stmt.TheFolds.{fold-roll-Stmt}
-use Rattle.c_grammar.specs.Printed.{Standing, expr_step, expr_kinds, stmt_step, stmt_kinds}
+use Rattle.c_printer.specs.PrintedTokens.{Standing, expr_step, expr_kinds, stmt_step, stmt_kinds}
 
 pub expr_kinds-Number : (value : ℕ) (unsigned : Bool) (token : ℕ) → expr_kinds (exprs.Number value unsigned token) ≡ expr_step (Expr-F.Number value unsigned token)
 expr_kinds-Number value unsigned token = ap expr_kinds (sym (exprs.rolls-Number value unsigned token)) ∙ fold-roll-Expr (List Kind) expr_step (Expr-F.Number value unsigned token)
 
-pub expr_kinds-Name : (name : ArrayString) (token : ℕ) → expr_kinds (exprs.Name name token) ≡ expr_step (Expr-F.Name name token)
+pub expr_kinds-Name : (name : List ℕ) (token : ℕ) → expr_kinds (exprs.Name name token) ≡ expr_step (Expr-F.Name name token)
 expr_kinds-Name name token = ap expr_kinds (sym (exprs.rolls-Name name token)) ∙ fold-roll-Expr (List Kind) expr_step (Expr-F.Name name token)
 
-pub expr_kinds-Index : (name : ArrayString) (index : Expr) (token : ℕ) → expr_kinds (exprs.Index name index token) ≡ expr_step (Expr-F.Index name (expr_kinds index) token)
+pub expr_kinds-Index : (name : List ℕ) (index : Expr) (token : ℕ) → expr_kinds (exprs.Index name index token) ≡ expr_step (Expr-F.Index name (expr_kinds index) token)
 expr_kinds-Index name index token = ap expr_kinds (sym (exprs.rolls-Index name index token)) ∙ fold-roll-Expr (List Kind) expr_step (Expr-F.Index name index token)
 
-pub expr_kinds-Call : (name : ArrayString) (arguments : List Expr) (token : ℕ) → expr_kinds (exprs.Call name arguments token) ≡ expr_step (Expr-F.Call name (map expr_kinds arguments) token)
+pub expr_kinds-Call : (name : List ℕ) (arguments : List Expr) (token : ℕ) → expr_kinds (exprs.Call name arguments token) ≡ expr_step (Expr-F.Call name (map expr_kinds arguments) token)
 expr_kinds-Call name arguments token = ap expr_kinds (sym (exprs.rolls-Call name arguments token)) ∙ fold-roll-Expr (List Kind) expr_step (Expr-F.Call name arguments token)
 
 pub expr_kinds-Input : (token : ℕ) → expr_kinds (exprs.Input token) ≡ expr_step (Expr-F.Input token)
@@ -45,13 +44,13 @@ stmt_kinds-Block body token = ap stmt_kinds (sym (stmts.rolls-Block body token))
 pub stmt_kinds-Empty : (token : ℕ) → stmt_kinds (stmts.Empty token) ≡ stmt_step (Stmt-F.Empty token)
 stmt_kinds-Empty token = ap stmt_kinds (sym (stmts.rolls-Empty token)) ∙ fold-roll-Stmt (Standing → List Kind) stmt_step (Stmt-F.Empty token)
 
-pub stmt_kinds-Local : (unsigned : Bool) (name : ArrayString) (value : Option Expr) (token : ℕ) → stmt_kinds (stmts.Local unsigned name value token) ≡ stmt_step (Stmt-F.Local unsigned name value token)
+pub stmt_kinds-Local : (unsigned : Bool) (name : List ℕ) (value : Option Expr) (token : ℕ) → stmt_kinds (stmts.Local unsigned name value token) ≡ stmt_step (Stmt-F.Local unsigned name value token)
 stmt_kinds-Local unsigned name value token = ap stmt_kinds (sym (stmts.rolls-Local unsigned name value token)) ∙ fold-roll-Stmt (Standing → List Kind) stmt_step (Stmt-F.Local unsigned name value token)
 
-pub stmt_kinds-Assign : (name : ArrayString) (index : Option Expr) (value : Expr) (token : ℕ) → stmt_kinds (stmts.Assign name index value token) ≡ stmt_step (Stmt-F.Assign name index value token)
+pub stmt_kinds-Assign : (name : List ℕ) (index : Option Expr) (value : Expr) (token : ℕ) → stmt_kinds (stmts.Assign name index value token) ≡ stmt_step (Stmt-F.Assign name index value token)
 stmt_kinds-Assign name index value token = ap stmt_kinds (sym (stmts.rolls-Assign name index value token)) ∙ fold-roll-Stmt (Standing → List Kind) stmt_step (Stmt-F.Assign name index value token)
 
-pub stmt_kinds-Call : (name : ArrayString) (arguments : List Expr) (token : ℕ) → stmt_kinds (stmts.Call name arguments token) ≡ stmt_step (Stmt-F.Call name arguments token)
+pub stmt_kinds-Call : (name : List ℕ) (arguments : List Expr) (token : ℕ) → stmt_kinds (stmts.Call name arguments token) ≡ stmt_step (Stmt-F.Call name arguments token)
 stmt_kinds-Call name arguments token = ap stmt_kinds (sym (stmts.rolls-Call name arguments token)) ∙ fold-roll-Stmt (Standing → List Kind) stmt_step (Stmt-F.Call name arguments token)
 
 pub stmt_kinds-Release : (value : Expr) (token : ℕ) → stmt_kinds (stmts.Release value token) ≡ stmt_step (Stmt-F.Release value token)

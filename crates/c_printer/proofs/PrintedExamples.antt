@@ -1,6 +1,5 @@
 -- The printed tokens of worked trees.
 use Rattle.std.proofs.Common.{◌≡◌, true, false, [], ◌∷◌, ◌++◌, Some, refl, ap, ◌∙◌}
-use Rattle.arrayvec.specs.ArrayString.{ArrayString}
 use Rattle.c_token.specs.declared.kinds.Kind.TheVariants as kinds
 use Rattle.c_token.specs.declared.words.Word.TheVariants as words
 use Rattle.c_token.specs.declared.signs.Sign.TheVariants as signs
@@ -9,22 +8,22 @@ use Rattle.c_grammar.specs.declared.stmt.Stmt.TheVariants as stmts
 use Rattle.c_grammar.specs.declared.item.Item.TheVariants as items
 use Rattle.c_grammar.specs.declared.item.Kind3.TheVariants as results
 use Rattle.c_grammar.specs.declared.item.Storage.TheVariants as storages
-use Rattle.c_grammar.specs.Printed.{stmt_kinds, item_kinds, in_code}
-use Rattle.c_grammar.specs.TreeLaws as laws
+use Rattle.c_printer.specs.PrintedTokens.{stmt_kinds, item_kinds, in_code}
+use Rattle.c_printer.proofs.PrintedForms as laws
 
 -- `const int k[2]={1,-2};` in print
-constant : (k : ArrayString) → item_kinds (items.Constant false k (Some 2) (record { negative = false; value = 1; unsigned = false } ∷ record { negative = true; value = 2; unsigned = true } ∷ []) true 2)
+constant : (k : List ℕ) → item_kinds (items.Constant false k (Some 2) (record { negative = false; value = 1; unsigned = false } ∷ record { negative = true; value = 2; unsigned = true } ∷ []) true 2)
     ≡ kinds.Word words.Const ∷ kinds.Word words.Int ∷ kinds.Name k ∷ kinds.Sign signs.LeftBracket ∷ kinds.Number 2 false ∷ kinds.Sign signs.RightBracket ∷ kinds.Sign signs.Assign
     ∷ kinds.Sign signs.LeftBrace ∷ kinds.Number 1 false ∷ kinds.Sign signs.Comma ∷ kinds.Sign signs.Minus ∷ kinds.Number 2 true ∷ kinds.Sign signs.RightBrace ∷ kinds.Sign signs.Semicolon ∷ []
 constant k = refl
 
 -- `__verified unsigned int a[4294967295];`
-object : (a : ArrayString) → item_kinds (items.Object storages.Verified true a (Some 4294967295) 3)
+object : (a : List ℕ) → item_kinds (items.Object storages.Verified true a (Some 4294967295) 3)
     ≡ kinds.Word words.Unsigned ∷ kinds.Name a ∷ kinds.Sign signs.LeftBracket ∷ kinds.Number 4294967295 true ∷ kinds.Sign signs.RightBracket ∷ kinds.Sign signs.Semicolon ∷ []
 object a = refl
 
 -- `void f(){}`
-function : (f : ArrayString) → item_kinds (items.Function false results.Void f [] [] 1)
+function : (f : List ℕ) → item_kinds (items.Function false results.Void f [] [] 1)
     ≡ kinds.Word words.Void ∷ kinds.Name f ∷ kinds.Sign signs.LeftParenthesis ∷ kinds.Word words.Void ∷ kinds.Sign signs.RightParenthesis ∷ kinds.Sign signs.LeftBrace ∷ kinds.Sign signs.RightBrace ∷ []
 function f = refl
 
