@@ -22,10 +22,14 @@ file_of-missing = refl
 fails_next-first : fails_next folder ≡ false
 fails_next-first = refl
 
-fails_next-second : fails_next (after_read folder) ≡ true
+fails_next-second : fails_next (after_read folder (codes "word")) ≡ true
 fails_next-second = refl
 
-after_read-twice : after_read (after_read folder) ≡ record folder { calls = 2; faults = 1 }
+after_read-twice : after_read (after_read folder (codes "word")) (codes "wor") ≡ record folder {
+  asked = Some (record { name = codes "word"; faults = 0 } ∷ record { name = codes "wor"; faults = 0 } ∷ []);
+  calls = 2;
+  faults = 1;
+}
 after_read-twice = refl
 
 -- a sink of four bytes, whose first call fails at once and whose second fails after two bytes

@@ -1,3 +1,4 @@
+mod EdgeExamples
 mod Examples
 mod Fronts
 mod Pieces

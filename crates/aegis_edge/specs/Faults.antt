@@ -1,4 +1,4 @@
--- Counts of faults. A count is a number below 2 ^ 64; at the greatest one it stands still.
+-- Promise: counts of faults. A count is a number below 2 ^ 64; at the greatest one it stands still.
 use Rattle.std.specs.Prelude.{ℕ, ◌+◌, ◌-◌, ◌^◌, ◌≤◌, min}
 
 -- one more, up to the greatest count

@@ -1,10 +1,15 @@
--- What a folder of files tells, and what reading from it may answer.
-use Rattle.std.specs.Prelude.{◌≡◌, ℕ, ◌<◌, List, [], ◌++◌, length, Option, None, Some, unwrap_or}
+-- Promise: what a folder of files tells, which names it was asked for, and what reading from it may answer.
+use Rattle.std.specs.Prelude.{◌≡◌, ℕ, ◌<◌, List, [], ◌∷◌, ◌++◌, length, Option, None, Some, unwrap_or}
 use Rattle.aegis_edge.specs.Faults.{Rose}
 
 -- the file of each name, where there is one
 abbrev pub Files : Type 0
 Files = List ℕ → Option (List ℕ)
+
+-- a name that was asked for, and how many faults there were before
+pub record Asking : Type 0 where
+  pub name : List ℕ
+  pub faults : ℕ
 
 -- the bytes of a file, none where there is no file
 abbrev pub content_of : Files → List ℕ → List ℕ
@@ -33,3 +38,13 @@ IsMissing (Some files) name before now = (files name ≡ None) × (now ≡ befor
 abbrev pub IsTooLong : Option Files → List ℕ → ℕ → ℕ → ℕ → Type 0
 IsTooLong None name limit before now = Rose before now
 IsTooLong (Some files) name limit before now = (limit < length (content_of files name)) × (now ≡ before)
+
+-- the names that were asked for between two moments, in order; a folder may stop telling names, and then tells none from then on
+abbrev pub Asks : Option (List Asking) → Option (List Asking) → List Asking → Type 0
+Asks old None askings = Unit {0}
+Asks None (Some new) askings = ⊥
+Asks (Some old) (Some new) askings = new ≡ old ++ askings
+
+-- one name was asked for
+abbrev pub AsksOne : Option (List Asking) → Option (List Asking) → List ℕ → ℕ → Type 0
+AsksOne old new name faults = Asks old new (record { name = name; faults = faults } ∷ [])

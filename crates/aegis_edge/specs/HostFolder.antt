@@ -1,4 +1,4 @@
--- A folder of the host.
+-- Promise: a folder of the host.
 use Rattle.std.specs.Prelude.{◌≡◌, ℕ, ◌<◌, List, length, Option, Result, Ok, Err, IfSome}
 use Rattle.aegis_edge.specs.Faults.{one_more}
 use Rattle.aegis_edge.specs.declared.folder.FolderError.{FolderError}

@@ -1,4 +1,4 @@
--- A sink over a writer of the host.
+-- Promise: a sink over a writer of the host.
 use Rattle.std.specs.Prelude.{ℕ, List, take, Option}
 use Rattle.std.specs.Io.KnownBytes.{Appends}
 

@@ -1,4 +1,4 @@
--- A sink in memory: its bytes, its room, and the calls of `write` that fail.
+-- Promise: a sink in memory: its bytes, its room, and the calls of `write` that fail.
 use Rattle.std.specs.Prelude.{ℕ, Bool, ◌==◌, ◌||◌, ◌-◌, nat_lt, min, List, [], ◌++◌, length, take, Option, is_some, unwrap_or, if◌then◌else◌}
 use Rattle.std.specs.Map.{lookup}
 use Rattle.aegis_edge.specs.Faults.{one_more}

@@ -1,4 +1,4 @@
--- What a sink of bytes took, and how many it may still take.
+-- Promise: what a sink of bytes took, and how many it may still take.
 use Rattle.std.specs.Prelude.{◌≡◌, ℕ, ◌-◌, ◌≤◌, List, ◌++◌, length, take, Option, None, Some}
 
 -- a piece is not longer than the limit, where there is one
@@ -6,7 +6,7 @@ abbrev pub IsWithin : Option ℕ → List ℕ → Type 0
 IsWithin None piece = Unit {0}
 IsWithin (Some left) piece = length piece ≤ left
 
--- the limit behind a piece of this many bytes
+-- what is left of a limit after a piece of this many bytes
 abbrev pub limit_after : Option ℕ → ℕ → Option ℕ
 limit_after None taken = None
 limit_after (Some left) taken = Some (left - taken)

@@ -1,7 +1,7 @@
 //! Folders: files by name.
-ghost use Rattle.std.specs.Prelude.{◌≡◌, ℕ, ◌≤◌, [], Option, vec_len, OnOk, OnErr};
+ghost use Rattle.std.specs.Prelude.{◌≡◌, ℕ, ◌≤◌, List, [], Option, vec_len, OnOk, OnErr};
 ghost use Rattle.aegis_edge.specs.Faults.{Rose};
-ghost use Rattle.aegis_edge.specs.Folder.{Files, HoldsWhole, HoldsFront, IsMissing, IsTooLong};
+ghost use Rattle.aegis_edge.specs.Folder.{Files, Asking, AsksOne, HoldsWhole, HoldsFront, IsMissing, IsTooLong};
 
 use std::alloc::Global;
 use thiserror::Error;
@@ -27,6 +27,9 @@ pub enum FolderError {
 pub trait Folder {
     /// The file of each name, where the folder tells its files.
     ghost files: { Self → Option Files };
+
+    /// The names that it was asked for so far, in order, where the folder tells them.
+    ghost asked: { Self → Option (List Asking) };
 
     /// How many faults there were.
     ghost faults: { Self → ℕ };
@@ -54,6 +57,8 @@ pub trait Folder {
         ensures front { OnErr result (HoldsFront (files self.old) name.now into.new.items) }
 
         ensures steady { OnOk result (faults self.new ≡ faults self.old) }
+        ensures lean { result ≡ Err FolderError.OutOfMemory → faults self.new ≡ faults self.old }
+        ensures asks { AsksOne (asked self.old) (asked self.new) name.now (faults self.old) }
         ensures kept { files self.new ≡ files self.old }
         ensures counted { faults self.old ≤ faults self.new };
 }

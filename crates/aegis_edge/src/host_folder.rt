@@ -88,6 +88,8 @@ fn read_file<R: Files>(
 impl<R: Files + Drop> Folder for HostFolder<R> {
     ghost files = { λ _. None };
 
+    ghost asked = { λ _. None };
+
     ghost faults = { λ folder. folder.faults };
 
     /// Reads a file into `into`, by the allocator of `into`. Each refusal but want of memory is counted.

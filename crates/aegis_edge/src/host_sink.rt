@@ -64,7 +64,7 @@ impl<W: Write + Drop> Sink for HostSink<W> {
 
     ghost limit = { λ _. None };
 
-    /// Takes a piece, and flushes the writer behind it. A write that takes nothing is a fault, and so is each error.
+    /// Takes a piece, and flushes the writer after it. A write that takes nothing is a fault, and so is each error.
     fn write(&mut self, bytes: &[u8]) -> Result<(), SinkFault>
         ensures taken { OnOk result (Appends self.old.contents self.new.contents bytes.now) }
         ensures front { OnErr result (TakesFront self.old.contents self.new.contents bytes.now) }

@@ -5,12 +5,19 @@ ghost use Rattle.std.specs.Map.{lookup};
 ghost use Rattle.std.specs.Str.{bytes_eq};
 ghost use Rattle.aegis_edge.specs.Folder.{HoldsFront};
 ghost use Rattle.aegis_edge.specs.MemFile.{entry_of};
-ghost use Rattle.aegis_edge.specs.MemFolder.{new_folder, file_of, with_file, fails_next, after_read};
+ghost use Rattle.aegis_edge.specs.MemFolder.{new_folder, file_of, with_asking, with_file, fails_next, after_read};
 
 use crate::folder::{Folder, FolderError};
 use aegis_num::OutOfMemory;
+use arrayvec::ArrayString;
 use std::alloc::Global;
 use std::marker::Model;
+
+/// The greatest length in bytes of a name that a folder in memory keeps of those that it was asked for.
+pub const NAME_BYTES: usize = 256;
+
+/// How many names a folder in memory keeps of those that it was asked for.
+pub const NAMES_KEPT: usize = 64;
 
 /// A file in memory.
 #[derive(Drop)]
@@ -19,29 +26,42 @@ struct MemFile {
     bytes: Vec<u8>,
 }
 
+/// A name that was asked for, and how many faults there were before.
+#[derive(Drop)]
+struct Asked {
+    name: ArrayString<NAME_BYTES>,
+    faults: u64,
+}
+
 /// A folder in memory.
 #[derive(Drop)]
 pub struct MemFolder {
     alloc: Global,
     files: Vec<MemFile>,
+    asked: Vec<Asked>,
+    tells_names: bool,
     failing: Vec<u64>,
     calls: u64,
     faults: u64,
 }
 
 impl Model for MemFolder {
-    ghost use Rattle.std.specs.Prelude.{map};
-    ghost use Rattle.aegis_edge.specs.MemFile.{entry_of};
+    ghost use Rattle.std.specs.Prelude.{◌≤◌, map, vec_capacity};
+    ghost use Rattle.aegis_edge.specs.declared.mem_folder.TheConstants.{NAMES_KEPT};
+    ghost use Rattle.aegis_edge.specs.MemFile.{entry_of, askings_of};
     ghost use Rattle.aegis_edge.specs.MemFolder.{FolderInMemory};
 
     ghost Value = { FolderInMemory };
 
     ghost view = { λ a. record {
       entries = map entry_of a.files.items;
+      asked = askings_of a.tells_names a.asked.items;
       failing = a.failing.items;
       calls = a.calls;
       faults = a.faults;
     } };
+
+    ghost invariant = { λ a. NAMES_KEPT ≤ vec_capacity a.asked };
 }
 
 // The bytes of the file of a name, where there is one.
@@ -63,9 +83,12 @@ impl MemFolder {
         ensures new { IfOk result (λ folder. folder ≡ new_folder failing.now) }
     {
         let failing = Vec::from_slice(alloc, failing)?;
+        let asked = Vec::with_capacity(alloc, NAMES_KEPT)?;
         Ok(MemFolder {
             alloc,
             files: Vec::new(alloc),
+            asked,
+            tells_names: true,
             failing,
             calls: 0,
             faults: 0,
@@ -91,12 +114,32 @@ impl MemFolder {
         Ok(())
     }
 
-    // Counts a call, and its fault where it is listed, and answers whether it is.
-    fn count_call(&mut self) -> bool
+    // Notes a name that is asked for. Where there is no room for it no name is told from then on.
+    fn note(&mut self, name: &str)
+        ensures { self.new ≡ record self.old {
+          asked = with_asking self.old.asked name.now self.old.faults;
+        } }
+    {
+        if name.len() > NAME_BYTES || self.asked.len() >= NAMES_KEPT {
+            self.tells_names = false;
+            return;
+        }
+        let mut kept = ArrayString::new();
+        kept.push_str(name);
+        let asked = Asked {
+            name: kept,
+            faults: self.faults,
+        };
+        self.asked.push(asked).unwrap();
+    }
+
+    // Notes the name and counts a call, and its fault where it is listed, and answers whether it is.
+    fn count_call(&mut self, name: &str) -> bool
         ensures listed { result ≡ fails_next self.old }
-        ensures after { self.new ≡ after_read self.old }
+        ensures after { self.new ≡ after_read self.old name.now }
         ensures counted { self.old.faults ≤ self.new.faults }
     {
+        self.note(name);
         let is_listed = self.failing.contains(&self.calls);
         self.calls = self.calls.saturating_add(1);
         if is_listed {
@@ -108,6 +151,8 @@ impl MemFolder {
 
 impl Folder for MemFolder {
     ghost files = { λ folder. Some (file_of folder) };
+
+    ghost asked = { λ folder. folder.asked };
 
     ghost faults = { λ folder. folder.faults };
 
@@ -139,10 +184,10 @@ impl Folder for MemFolder {
         ensures front { OnErr result
             (HoldsFront (Some (file_of self.old)) name.now into.new.items) }
 
-        ensures after { self.new ≡ after_read self.old }
+        ensures after { self.new ≡ after_read self.old name.now }
         ensures counted { self.old.faults ≤ self.new.faults }
     {
-        if self.count_call() {
+        if self.count_call(name) {
             return Err(FolderError::Failed);
         }
         let Some(bytes) = find(&self.files, name) else {
