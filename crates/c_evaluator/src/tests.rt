@@ -14,6 +14,7 @@ fn only_main(alloc: Global, body: Stmt) -> Result<Program, OutOfMemory> {
     statements.push(body)?;
     let mut functions = Items::new(alloc);
     functions.push(Function {
+        private: false,
         parameters: Items::new(alloc),
         body: statements,
     })?;
@@ -84,6 +85,7 @@ fn stores(alloc: Global) -> Result<Program, OutOfMemory> {
     )?;
     program.objects.push(Object {
         variable: array,
+        length: Some(3),
         first: Items::new(alloc),
     })?;
     Ok(program)

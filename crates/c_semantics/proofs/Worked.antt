@@ -21,7 +21,7 @@ local token = record { token = token; class = None }
 
 -- a program with one function
 abbrev only_main : Stmt → Program
-only_main body = record { objects = []; functions = record { parameters = []; body = body } ∷ []; main = 0 }
+only_main body = record { objects = []; functions = record { private = false; parameters = []; body = body } ∷ []; main = 0 }
 
 abbrev return_0 : Stmt
 return_0 = Return (Some (Number 0))
@@ -51,8 +51,9 @@ divides-zero = (refl, refl)
 -- int a[3];int main(void){int i;i=3;release(65);release(a[i]);return 0;}
 abbrev outside : Program
 outside = record {
-  objects = record { variable = record { token = 1; class = Some Verified }; first = [] } ∷ [];
+  objects = record { variable = record { token = 1; class = Some Verified }; length = Some 3; first = [] } ∷ [];
   functions = record {
+    private = false;
     parameters = [];
     body = Then (Local (local 13) None) (Then (Assign (local 13) (Number 3)) (Then (Release (Number 65))
         (Then (Release (Indexed 27 (record { token = 1; class = Some Verified }) 3 (Scalar (local 13)))) return_0)));
@@ -89,8 +90,8 @@ word = record { token = 2; class = Some Open }
 
 abbrev waits : Program
 waits = record {
-  objects = record { variable = word; first = [] } ∷ [];
-  functions = record { parameters = []; body = Then Suspend (Then (Release (Scalar word)) return_0) } ∷ [];
+  objects = record { variable = word; length = None; first = [] } ∷ [];
+  functions = record { private = false; parameters = []; body = Then Suspend (Then (Release (Scalar word)) return_0) } ∷ [];
   main = 0;
 }
 
@@ -141,9 +142,11 @@ abbrev argument_order : Program
 argument_order = record {
   objects = [];
   functions = record {
+    private = false;
     parameters = local 4 ∷ local 7 ∷ [];
     body = Then (Release (Scalar (local 4))) (Assign (local 7) (Number 1));
   } ∷ record {
+    private = false;
     parameters = [];
     body = Release (Either (Called 0 (Argument Input (Argument Input NoArguments))) (Both (Number 1) (Binary 44 DivU (Number 0) (Number 0))));
   } ∷ [];

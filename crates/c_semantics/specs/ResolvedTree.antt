@@ -1,6 +1,6 @@
 -- Programs whose names are resolved. A variable is named by the token of its declaration, a function by its number among the
 -- functions of the source, from 0, and each operator has the types of its operands. Parentheses are gone.
-use Rattle.std.specs.Prelude.{ℕ, List, Option}
+use Rattle.std.specs.Prelude.{ℕ, Bool, List, Option}
 use Rattle.aegis_num.specs.declared.operators.BinaryOp.{BinaryOp}
 use Rattle.aegis_num.specs.declared.operators.UnaryOp.{UnaryOp}
 use Rattle.c_semantics.specs.declared.tree.Variable.{Variable}
@@ -53,12 +53,14 @@ pub data Stmt : Type 0 where
   For : (first : Stmt) (test : Option Expr) (step body : Stmt) → Stmt
 
 pub record Function : Type 0 where
+  pub private : Bool
   pub parameters : List Variable
   pub body : Stmt
 
--- a global object with the words that it starts with; those that are missing are zero
+-- a global object with its length, if it is an array, and the words that it starts with; those that are missing are zero
 pub record Object : Type 0 where
   pub variable : Variable
+  pub length : Option ℕ
   pub first : List ℕ
 
 -- the objects and the functions stand as in the source

@@ -84,14 +84,14 @@ branch_of None = Tree.Nothing
 branch_of (Some s) = stmt_of s
 
 abbrev pub function_of : Function → Tree.Function
-function_of f = record { parameters = f.parameters; body = stmts_of f.body }
+function_of f = record { private = f.private; parameters = f.parameters; body = stmts_of f.body }
 
 abbrev pub functions_of : List Function → List Tree.Function
 functions_of [] = []
 functions_of (f ∷ fs) = function_of f ∷ functions_of fs
 
 abbrev pub object_of : Object → Tree.Object
-object_of o = record { variable = o.variable; first = o.first }
+object_of o = record { variable = o.variable; length = o.length; first = o.first }
 
 abbrev pub objects_of : List Object → List Tree.Object
 objects_of [] = []

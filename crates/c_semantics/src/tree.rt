@@ -174,6 +174,8 @@ pub enum Stmt {
 /// A function.
 #[derive(Drop)]
 pub struct Function {
+    /// Whether it is private.
+    pub private: bool,
     /// The parameters, in order.
     pub parameters: Items<Variable>,
     /// The body.
@@ -183,8 +185,10 @@ pub struct Function {
 /// A global variable, array or constant.
 #[derive(Drop)]
 pub struct Object {
-    /// It.
+    /// The variable.
     pub variable: Variable,
+    /// How many elements it has, if it is an array.
+    pub length: Option<u32>,
     /// The words that it starts with. Those that are missing are zero.
     pub first: Items<u32>,
 }
