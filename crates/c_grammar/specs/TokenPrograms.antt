@@ -17,8 +17,8 @@ limit = MAX_NESTING
 abbrev pub AreProgram : List Kind → Program → Type 0
 AreProgram kinds program = IsProgram (bounded_all limit (numbered 0 kinds)) program
 
--- the text is this program: its tokens are
-pub record IsProgramText (text : List ℕ) (program : Program) : Type 0 where
+-- the program of the text is this one: its tokens are; there is at most one
+pub record HasProgram (text : List ℕ) (program : Program) : Type 0 where
   pub tokens : List Token
   pub lexed : tokens_of text ≡ Ok tokens
   pub read : AreProgram (kinds_of tokens) program

@@ -5,19 +5,13 @@ use Rattle.c_token.specs.declared.kinds.TokenError.{TokenError}
 use Rattle.c_token.specs.TextTokens.{tokens_of}
 use Rattle.c_token.specs.PlainText.{kinds_of}
 use Rattle.c_grammar.specs.declared.item.Program.{Program}
-use Rattle.c_grammar.specs.Places.{Reads}
+use Rattle.c_grammar.specs.TokenPrograms.{HasProgram}
 use Rattle.c_reader.specs.declared.error.SyntaxError.{SyntaxError}
 use Rattle.c_reader.specs.Refusals.{IsRefusedAs}
 
 -- the text has these tokens
 abbrev pub HasTokens : List ℕ → List Token → Type 0
 HasTokens text tokens = tokens_of text ≡ Ok tokens
-
--- the program of the text is this one, within the limits of nesting; there is at most one
-pub record HasProgram (text : List ℕ) (program : Program) : Type 0 where
-  pub tokens : List Token
-  pub lexed : HasTokens text tokens
-  pub read : Reads (kinds_of tokens) program
 
 -- the text has no tokens, for this fault
 abbrev pub HasTokenFault : List ℕ → TokenError → Type 0
