@@ -9,7 +9,7 @@ use Rattle.orbis_word.specs.declared.Instr.TheVariants.{Nop, Ori, Cust1}
 use Rattle.orbis_word.specs.Table.{IsInRange, word_of}
 use Rattle.regions.specs.declared.Access.TheVariants.{Fetch}
 use Rattle.regions.specs.declared.Mode.TheVariants.{Ptr}
-use Rattle.regions.specs.Addresses.{tree_start}
+use Rattle.regions.specs.declared.addresses.TheConstants.{TREE_START}
 use Rattle.orbis_core.specs.Effects.{effect_of}
 use Rattle.orbis_core.specs.FlatLaws.{bytes_of, fetch-code, length-bytes_of, word_at-static, words_in-bytes_of}
 use Rattle.orbis_core.specs.FlatMemory.{Flat, flat_of, word_at}
@@ -45,7 +45,7 @@ code-AreWords literals =
 
 -- a memory that holds code answers a fetch by the word there
 fetched-word : (memory : Flat) (code : List ℕ) (k at word : ℕ) → HoldsCode memory code → AreWords code → length code % 16 ≡ 0 → length code ≤ 16 * 6561 → k < length code
-    → at ≡ tree_start + 4 * k → get_or code k 0 ≡ word → answered (word_refusal memory.layout Ptr Fetch at) (word_at memory at) ≡ Ok word
+    → at ≡ TREE_START + 4 * k → get_or code k 0 ≡ word → answered (word_refusal memory.layout Ptr Fetch at) (word_at memory at) ≡ Ok word
 fetched-word memory code k at word holds small whole fits below place is =
     let v : memory.layout.verified ≡ 0 = holds.verified in
     let p : memory.layout.private ≡ 0 = holds.private in
@@ -63,7 +63,7 @@ fetched-word memory code k at word holds small whole fits below place is =
 -- the words before are done, and the processor stands at the first word of those behind
 record StandsAt (code before behind : List ℕ) (core : Processor) : Type 0 where
   whole : code ≡ before ++ behind
-  place : core.pc ≡ tree_start + 4 * length before
+  place : core.pc ≡ TREE_START + 4 * length before
 
 -- what is known of the code all along
 record IsLoaded (memory : Flat) (code : List ℕ) : Type 0 where
@@ -91,7 +91,7 @@ stands-next code before behind word core next fits at moved = record {
   place =
       let count : length code ≡ length before + length (word ∷ behind) = ap length at.whole ∙ length-append before (word ∷ behind) in
       let longer : length (before ++ word ∷ []) ≡ length before + 1 = length-append before (word ∷ []) in
-      let at_word : core.pc ≡ tree_start + 4 * length before = at.place in
+      let at_word : core.pc ≡ TREE_START + 4 * length before = at.place in
       rw longer (omega arith);
 }
 

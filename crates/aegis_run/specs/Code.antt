@@ -11,7 +11,7 @@ use Rattle.orbis_word.specs.declared.Instr.TheVariants.{Nop, Ori, Cust1}
 use Rattle.orbis_word.specs.Table.{IsInRange, word_of}
 use Rattle.regions.specs.declared.Access.TheVariants.{Fetch}
 use Rattle.regions.specs.declared.Mode.TheVariants.{Ptr}
-use Rattle.regions.specs.Addresses.{tree_start}
+use Rattle.regions.specs.declared.addresses.TheConstants.{TREE_START}
 use Rattle.orbis_core.specs.declared.Effect.{Effect}
 use Rattle.orbis_core.specs.declared.Effect.TheVariants.{Write, Secure}
 use Rattle.orbis_core.specs.declared.StepEnd.{StepEnd}
@@ -49,7 +49,7 @@ pub record HoldsCode (memory : Flat) (code : List ℕ) : Type 0 where
 
 -- the processor before its first instruction
 abbrev pub reset : Processor
-reset = record { pc = tree_start; flag = false; registers = replicate 32 0 }
+reset = record { pc = TREE_START; flag = false; registers = replicate 32 0 }
 
 -- an effect that straight-line code has: a register is written, or the program releases a byte or exits
 abbrev pub IsStraight : Effect → Type 0

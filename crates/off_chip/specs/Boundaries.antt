@@ -2,8 +2,7 @@
 use Rattle.std.specs.Prelude.{◌≡◌, ℕ, ◌+◌, ◌≤◌, ◌==◌, nat_le, Bool, true, false, ◌&&◌, ◌||◌, List, [], ◌∷◌, ◌++◌, length, drop, if◌then◌else◌}
 use Rattle.std.specs.List.{slice_split}
 use Rattle.regions.specs.declared.layout.Layout.{Layout}
-use Rattle.regions.specs.Blocks.{data_blocks}
-use Rattle.regions.specs.Tree.{height_of, tree_blocks}
+use Rattle.regions.specs.Tree.{tree_blocks}
 use Rattle.off_chip.specs.declared.event.Event.{Event}
 use Rattle.off_chip.specs.declared.event.Event.TheVariants.{Note}
 use Rattle.off_chip.specs.declared.event.Mark.TheVariants.{Retire, Suspend}
@@ -31,7 +30,7 @@ suspensions events = count is_suspend events
 -- how many events entering a program takes: its mark, a read of each block of constants and of code, a write of each block of the tree,
 -- and a write of each block of the log
 abbrev pub enter_events : Layout → ℕ
-enter_events layout = 1 + (layout.constants + layout.code) + tree_blocks (height_of (data_blocks layout)) + layout.log
+enter_events layout = 1 + (layout.constants + layout.code) + tree_blocks layout + layout.log
 
 -- a boundary of a trace, where entering takes so many events: its start, the end of entering, and the place behind each retirement
 pub data IsBoundary (entry : ℕ) (before : List Event) : Type 0 where

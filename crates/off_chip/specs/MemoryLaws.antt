@@ -5,7 +5,7 @@ use Rattle.std.proofs.Math.Seq.{take-add}
 use Rattle.aegis_num.specs.declared.storage.Place.{Place}
 use Rattle.aegis_num.specs.declared.storage.Place.TheVariants.{Tree, Log}
 use Rattle.regions.specs.declared.layout.Layout.{Layout}
-use Rattle.regions.specs.Addresses.{open_end}
+use Rattle.regions.specs.declared.addresses.TheConstants.{OPEN_END}
 use Rattle.off_chip.specs.Memory.{HasPlace, IsWordAddress, bytes_at, put, start_of_place, loaded, loaded_over, size_of, stored, static_block, static_place, with_statics}
 
 -- as many bytes as before
@@ -48,7 +48,7 @@ HasPlace-within layout (Tree n) has = omega arith
 HasPlace-within layout (Log n) has = omega arith
 
 -- an open word is among the open bytes
-pub IsWordAddress-within : (at : ℕ) → IsWordAddress at → at + 4 ≤ open_end
+pub IsWordAddress-within : (at : ℕ) → IsWordAddress at → at + 4 ≤ OPEN_END
 IsWordAddress-within at is = let p = is.is_open in let q = is.aligned in omega arith
 
 -- no static block yet

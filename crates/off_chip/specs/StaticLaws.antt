@@ -5,12 +5,11 @@ use Rattle.std.proofs.lemmas.Bool.{and_parts, leb-true, ltb-true, le-leb, lt-ltb
 use Rattle.aegis_num.specs.declared.storage.Place.{Place}
 use Rattle.aegis_num.specs.declared.storage.Place.TheVariants.{Tree, Log}
 use Rattle.regions.specs.declared.layout.Layout.{Layout}
-use Rattle.regions.specs.Blocks.{data_blocks}
-use Rattle.regions.specs.Tree.{height_of, leaf_of}
+use Rattle.regions.specs.Tree.{leaf_of}
 use Rattle.off_chip.specs.Memory.{bytes_at, static_blocks, static_place, static_block}
 use Rattle.off_chip.specs.Statics.{first_static, static_at, IsStatic}
 
-place-static : (layout : Layout) (n : ℕ) → leaf_of (height_of (data_blocks layout)) (layout.verified + layout.private + n) ≡ first_static layout + n
+place-static : (layout : Layout) (n : ℕ) → leaf_of layout (layout.verified + layout.private + n) ≡ first_static layout + n
 place-static layout n = omega arith
 
 some-cond : {X : Type 0} (b : Bool) (x y : X) → cond b (Some x) None ≡ Some y → (b ≡ true) × (x ≡ y)

@@ -3,13 +3,12 @@ use Rattle.std.specs.Prelude.{◌≡◌, ℕ, ◌+◌, ◌-◌, ◌*◌, ◌<◌
 use Rattle.aegis_num.specs.declared.storage.Place.{Place}
 use Rattle.aegis_num.specs.declared.storage.Place.TheVariants.{Tree, Log}
 use Rattle.regions.specs.declared.layout.Layout.{Layout}
-use Rattle.regions.specs.Blocks.{data_blocks}
-use Rattle.regions.specs.Tree.{height_of, leaf_of}
+use Rattle.regions.specs.Tree.{leaf_of}
 use Rattle.off_chip.specs.Memory.{bytes_at, static_blocks, static_place, static_block}
 
 -- the number of the first static block in the tree
 abbrev pub first_static : Layout → ℕ
-first_static layout = leaf_of (height_of (data_blocks layout)) (layout.verified + layout.private)
+first_static layout = leaf_of layout (layout.verified + layout.private)
 
 -- the payload of the static block at a place, of those whose payloads stand one after another, if the layout has one there
 abbrev pub static_at : Layout → List ℕ → Place → Option (List ℕ)

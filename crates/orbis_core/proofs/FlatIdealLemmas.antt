@@ -15,8 +15,9 @@ use Rattle.regions.specs.declared.Class.{Class}
 use Rattle.regions.specs.declared.Class.TheVariants.{Open, Verified, Private, Constant, Code, Logged}
 use Rattle.regions.specs.declared.Access.{Access}
 use Rattle.regions.specs.declared.Access.TheVariants.{Read, Write, Fetch}
-use Rattle.regions.specs.Addresses.{class_at, open_end, LiesIn, HasBlock, IsInData, IsInLog, start_of, end_of}
-use Rattle.regions.specs.AddressLaws.{class_at-LiesIn, LiesIn-class_at, HasBlock-LiesIn}
+use Rattle.regions.specs.Addresses.{class_at, LiesIn, HasBlock, IsInData, IsInLog, start_of, end_of}
+use Rattle.regions.specs.declared.addresses.TheConstants.{OPEN_END}
+use Rattle.regions.proofs.AddressLaws.{class_at-LiesIn, LiesIn-class_at, HasBlock-LiesIn}
 use Rattle.regions.specs.Modes.{SecureInstruction, Enter, Exit, IndexTrap, DivideTrap, Suspend, Resume, PrivateOn, PrivateOff, Release, Input, Check, allowed_in}
 use Rattle.orbis_core.specs.declared.effect.Effect.{Effect}
 use Rattle.orbis_core.specs.declared.effect.Effect.TheVariants as effect
@@ -45,7 +46,7 @@ use Rattle.orbis_core.specs.FlatLaws.{length-words_in, between}
 
 -- where an address of some class lies
 abbrev IsInside : Layout → ℕ → Type 0
-IsInside layout at = (at < open_end) ⊎ IsInData layout at ⊎ IsInLog layout at
+IsInside layout at = (at < OPEN_END) ⊎ IsInData layout at ⊎ IsInLog layout at
 
 inside-class : (layout : Layout) (at : ℕ) (class : Class) → HasBlock layout class at → IsInside layout at
 inside-class layout at Open has = inl has

@@ -9,7 +9,7 @@ use Rattle.regions.specs.declared.Class.TheVariants.{Constant, Code}
 use Rattle.regions.specs.declared.Mode.TheVariants.{Ptr}
 use Rattle.regions.specs.declared.Access.TheVariants.{Fetch}
 use Rattle.regions.specs.Addresses.{start_of, class_at}
-use Rattle.regions.specs.AddressLaws.{class_at-LiesIn}
+use Rattle.regions.proofs.AddressLaws.{class_at-LiesIn}
 use Rattle.regions.specs.Blocks.{data_blocks}
 use Rattle.orbis_core.specs.FlatMemory.{flat_of, word_at, index_of, open_words, block_words}
 use Rattle.orbis_core.specs.Refusals.{word_refusal}

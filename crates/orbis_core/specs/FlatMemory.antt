@@ -4,7 +4,7 @@ use Rattle.regions.specs.declared.Layout.{Layout}
 use Rattle.regions.specs.declared.Mode.TheVariants.{Ptr}
 use Rattle.regions.specs.declared.Access.{Access}
 use Rattle.regions.specs.declared.Access.TheVariants.{Read, Write, Fetch}
-use Rattle.regions.specs.Addresses.{open_end, tree_start, log_start}
+use Rattle.regions.specs.declared.addresses.TheConstants.{LOG_START, OPEN_END, TREE_START}
 use Rattle.regions.specs.Blocks.{data_blocks}
 use Rattle.orbis_core.specs.declared.memory.Stop.{Stop}
 use Rattle.orbis_core.specs.Accesses.{Accesses}
@@ -31,8 +31,8 @@ word_count layout = open_words + block_words * data_blocks layout + block_words 
 -- the number of the word that an address lies in
 abbrev pub index_of : Layout → ℕ → ℕ
 index_of layout at =
-    if nat_lt at open_end then at / 4
-    else (if nat_lt at log_start then open_words + (at - tree_start) / 4 else open_words + block_words * data_blocks layout + (at - log_start) / 4)
+    if nat_lt at OPEN_END then at / 4
+    else (if nat_lt at LOG_START then open_words + (at - TREE_START) / 4 else open_words + block_words * data_blocks layout + (at - LOG_START) / 4)
 
 -- the word that an address lies in
 abbrev pub word_at : Flat → ℕ → ℕ

@@ -1,25 +1,24 @@
 -- Worked examples of the definitions, each of which computes.
-use Rattle.std.proofs.Common.{◌≡◌, true, false, None, Some, lit≤, refl}
+use Rattle.std.proofs.Common.{◌≡◌, Bool, true, false, if◌then◌else◌, List, [], ◌∷◌, map, replicate, Option, None, Some, lit≤, refl}
 use Rattle.regions.specs.declared.addresses.TheConstants.{BLOCK_BYTES, LOG_START, OPEN_END, SHARED_START, TREE_START, UNTRUSTED_START}
 use Rattle.regions.specs.declared.layout.TheConstants.{MAX_DATA_BLOCKS, MAX_LOG_BLOCKS, MAX_SHARED_BYTES}
 use Rattle.regions.specs.declared.layout.Layout.{Layout}
 use Rattle.regions.specs.declared.rights.Access.TheVariants.{Read, Write, Fetch}
+use Rattle.regions.specs.declared.rights.Class.{Class}
 use Rattle.regions.specs.declared.rights.Class.TheVariants.{Open, Verified, Private, Constant, Code, Logged}
+use Rattle.regions.specs.declared.rights.Mode.{Mode}
 use Rattle.regions.specs.declared.rights.Mode.TheVariants.{Std, Te, Ptr, Ssp}
-use Rattle.regions.specs.Addresses.{block_bytes, block_start, class_at, data_block_at, log_block_at, log_start, offset_at, open_end, shared_start, tree_start, untrusted_start}
-use Rattle.regions.specs.Limits.{max_data_blocks, max_log_blocks, max_shared_bytes}
-use Rattle.regions.specs.Modes.{Enter, Exit, Suspend, Resume, Release, allowed_in, modes_after}
+use Rattle.regions.specs.Addresses.{block_start, class_at, data_block_at, log_block_at, offset_at}
+use Rattle.regions.specs.LooseClasses.{nothing_loose, shared_loose, shared_and_logged_loose}
+use Rattle.regions.specs.Modes.{Modes, SecureInstruction, Enter, Exit, IndexTrap, DivideTrap, Suspend, Resume, PrivateOn, PrivateOff, Release, Input, Check, allowed_in, modes_after}
 use Rattle.regions.specs.Rights.{rights}
-use Rattle.regions.specs.Tree.{height_of, leaf_of, tree_blocks, parent_of, slot_of, ancestor_of}
+use Rattle.regions.specs.Tree.{ancestor_of, height_of, leaf_of, least_height, level_start, parent_in, parent_of, positions_of, slot_in, slot_of, tree_blocks}
 
--- the program's constants are those of the definitions
-constants : (OPEN_END ≡ open_end) × (TREE_START ≡ tree_start) × (LOG_START ≡ log_start) × (BLOCK_BYTES ≡ block_bytes)
-constants = (refl, refl, refl, refl)
+-- the numbers of the map, and the limits
+numbers : (OPEN_END ≡ 0x10000) × (TREE_START ≡ 0x10000000) × (LOG_START ≡ 0x20000000) × (UNTRUSTED_START ≡ 0x2000) × (SHARED_START ≡ 0x8000) × (BLOCK_BYTES ≡ 64)
+numbers = (refl, refl, refl, refl, refl, refl)
 
-starts : (UNTRUSTED_START ≡ untrusted_start) × (SHARED_START ≡ shared_start)
-starts = (refl, refl)
-
-limits : (MAX_DATA_BLOCKS ≡ max_data_blocks) × (MAX_LOG_BLOCKS ≡ max_log_blocks) × (MAX_SHARED_BYTES ≡ max_shared_bytes)
+limits : (MAX_DATA_BLOCKS ≡ 6561) × (MAX_LOG_BLOCKS ≡ 1024) × (MAX_SHARED_BYTES ≡ 32768)
 limits = (refl, refl, refl)
 
 -- one verified block, two private ones, three of constants, four of code, and five of the log
@@ -60,21 +59,24 @@ class_at-logged = (refl, refl, refl)
 block-constant : (block_start 3 ≡ 0x100000c0) × (data_block_at 0x100000ff ≡ 3) × (offset_at 0x100000ff ≡ 63) × (log_block_at 0x20000040 ≡ 1)
 block-constant = (refl, refl, refl, refl)
 
-height_of-low : (height_of 0 ≡ 1) × (height_of 3 ≡ 1) × (height_of 4 ≡ 2) × (height_of 9 ≡ 2) × (height_of 10 ≡ 3)
+-- the least height with three to the power of it places, up to 8; and with two to the power of it, up to 13
+heights-three : map (λ blocks. least_height 3 blocks 7 1) (0 ∷ 3 ∷ 4 ∷ 9 ∷ 10 ∷ 2187 ∷ 2188 ∷ 6561 ∷ []) ≡ 1 ∷ 1 ∷ 2 ∷ 2 ∷ 3 ∷ 7 ∷ 8 ∷ 8 ∷ []
+heights-three = refl
+
+heights-two : map (λ blocks. least_height 2 blocks 12 1) (2 ∷ 3 ∷ 4 ∷ 5 ∷ 4096 ∷ 4097 ∷ 6561 ∷ []) ≡ 1 ∷ 2 ∷ 2 ∷ 3 ∷ 12 ∷ 13 ∷ 13 ∷ []
+heights-two = refl
+
+-- the layout has ten data blocks: a tree of height 3, of 40 blocks, of which the lowest 27 have positions; block 22 is the last child of block 7
+height-layout : (height_of layout ≡ 3) × (positions_of layout ≡ 27) × (tree_blocks layout ≡ 40) × (leaf_of layout 0 ≡ 13) × (leaf_of layout 9 ≡ 22)
 unfolding height_of
-height_of-low = (refl, refl, refl, refl, refl)
+height-layout = (refl, refl, refl, refl, refl)
 
-height_of-high : (height_of 2187 ≡ 7) × (height_of 2188 ≡ 8) × (height_of 6561 ≡ 8)
-unfolding height_of
-height_of-high = (refl, refl, refl)
+parents-layout : (parent_of layout 22 ≡ 7) × (slot_of layout 22 ≡ 0) × (parent_of layout 24 ≡ 7) × (slot_of layout 24 ≡ 2) × (ancestor_of layout 2 24 ≡ 2) × (ancestor_of layout 3 24 ≡ 0)
+parents-layout = (refl, refl, refl, refl, refl, refl)
 
--- a tree of height 2 has 13 blocks, of which the last nine are data blocks; block 9 is the last child of block 2
-tree : (tree_blocks 2 ≡ 13) × (leaf_of 2 0 ≡ 4) × (leaf_of 2 8 ≡ 12) × (parent_of 9 ≡ 2) × (slot_of 9 ≡ 2) × (ancestor_of 2 9 ≡ 0)
-tree = (refl, refl, refl, refl, refl, refl)
-
--- the greatest tree has 9,841 blocks
-tree_blocks-greatest : tree_blocks 8 ≡ 9841
-tree_blocks-greatest = refl
+-- the greatest tree has 9,841 blocks; with two children a node, the levels start at 0, 1, 3, 7, and block 12 is the second child of block 5
+level_starts : (level_start 3 9 ≡ 9841) × (map (level_start 2) (0 ∷ 1 ∷ 2 ∷ 3 ∷ []) ≡ 0 ∷ 1 ∷ 3 ∷ 7 ∷ []) × (parent_in 2 12 ≡ 5) × (slot_in 2 12 ≡ 1)
+level_starts = (refl, refl, refl, refl)
 
 rights-te : (rights Te Private Read ≡ false) × (rights Te Constant Write ≡ false) × (rights Te Code Read ≡ false) × (rights Te Code Fetch ≡ true)
 rights-te = (refl, refl, refl, refl)
@@ -82,13 +84,37 @@ rights-te = (refl, refl, refl, refl)
 rights-ssp : (rights Ssp Open Fetch ≡ true) × (rights Ssp Verified Read ≡ false)
 rights-ssp = (refl, refl)
 
--- behind a suspension a program goes on in the mode that it was in
-modes_after-suspended : modes_after Resume (modes_after Suspend (record { mode = Ptr; kept = Te })) ≡ record { mode = Ptr; kept = Ptr }
-modes_after-suspended = refl
+-- which classes are loose, in the order of the classes
+abbrev loose_in : (Class → Bool) → List Bool
+loose_in loose = map loose (Open ∷ Verified ∷ Private ∷ Constant ∷ Code ∷ Logged ∷ [])
 
--- enter is not allowed twice
-modes_after-entered : modes_after Enter (modes_after Enter (record { mode = Std; kept = Te })) ≡ record { mode = Te; kept = Te }
-modes_after-entered = refl
+loose-classes : (loose_in nothing_loose ≡ replicate 6 false) × (loose_in shared_loose ≡ true ∷ replicate 5 false)
+    × (loose_in shared_and_logged_loose ≡ true ∷ false ∷ false ∷ false ∷ false ∷ true ∷ [])
+loose-classes = (refl, refl, refl)
 
-allowed_in-entered : (allowed_in Enter Te ≡ false) × (allowed_in Exit Te ≡ true) × (allowed_in Suspend Std ≡ false) × (allowed_in Release Ssp ≡ false)
-allowed_in-entered = (refl, refl, refl, refl)
+-- the modes after an instruction from a mode with another one kept, if it is allowed there
+abbrev after : SecureInstruction → Mode → Mode → Option Modes
+after instruction kept mode =
+    if allowed_in instruction mode then Some (modes_after instruction (record { mode = mode; kept = kept })) else None
+
+-- from STD, TE, PTR and SSP
+abbrev row : SecureInstruction → Mode → List (Option Modes)
+row instruction kept = map (after instruction kept) (Std ∷ Te ∷ Ptr ∷ Ssp ∷ [])
+
+-- a mode, next to the kept one
+abbrev to : Mode → Mode → Option Modes
+to mode kept = Some (record { mode = mode; kept = kept })
+
+-- the whole table, for each kept mode: an instruction that is not allowed has no place in its row
+table : (kept : Mode) →
+    (row Enter kept ≡ to Te kept ∷ None ∷ None ∷ None ∷ []) × (row Exit kept ≡ None ∷ to Std kept ∷ to Std kept ∷ None ∷ [])
+    × (row IndexTrap kept ≡ None ∷ to Std kept ∷ to Std kept ∷ None ∷ []) × (row DivideTrap kept ≡ None ∷ to Std kept ∷ to Std kept ∷ None ∷ [])
+    × (row Suspend kept ≡ None ∷ to Ssp Te ∷ to Ssp Ptr ∷ None ∷ []) × (row Resume kept ≡ None ∷ None ∷ None ∷ to kept kept ∷ [])
+    × (row PrivateOn kept ≡ None ∷ to Ptr kept ∷ None ∷ None ∷ []) × (row PrivateOff kept ≡ None ∷ None ∷ to Te kept ∷ None ∷ [])
+    × (row Release kept ≡ None ∷ to Te kept ∷ to Ptr kept ∷ None ∷ []) × (row Input kept ≡ None ∷ to Te kept ∷ to Ptr kept ∷ None ∷ [])
+    × (row Check kept ≡ None ∷ to Te kept ∷ to Ptr kept ∷ None ∷ [])
+table kept = (refl, refl, refl, refl, refl, refl, refl, refl, refl, refl, refl)
+
+-- an instruction that is not allowed changes nothing
+refused : (modes_after Enter (record { mode = Te; kept = Te }) ≡ record { mode = Te; kept = Te }) × (modes_after Exit (record { mode = Ssp; kept = Ptr }) ≡ record { mode = Ssp; kept = Ptr })
+refused = (refl, refl)

@@ -1,1 +1,3 @@
+pub mod AddressLaws
 mod Examples
+pub mod TreeLaws

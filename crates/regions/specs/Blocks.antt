@@ -1,4 +1,4 @@
--- How many blocks a layout has.
+-- Promise: how many blocks a layout has.
 use Rattle.std.specs.Prelude.{ℕ, ◌+◌}
 use Rattle.regions.specs.declared.layout.Layout.{Layout}
 

@@ -1,4 +1,4 @@
--- The table of the secure instructions: in which modes each is allowed, and which mode comes behind it.
+-- Promise: the table of the secure instructions: in which modes each is allowed, and which mode comes after it.
 use Rattle.std.specs.Prelude.{Bool, true, false, if◌then◌else◌}
 use Rattle.regions.specs.declared.rights.Mode.{Mode}
 use Rattle.regions.specs.declared.rights.Mode.TheVariants.{Std, Te, Ptr, Ssp}
@@ -71,7 +71,7 @@ allowed_in Release = is_secure
 allowed_in Input = is_secure
 allowed_in Check = is_secure
 
--- the new modes behind an instruction that is allowed
+-- the new modes after an instruction that is allowed
 abbrev pub new_modes : SecureInstruction → Modes → Modes
 new_modes Enter modes = record modes { mode = Te }
 new_modes Exit modes = record modes { mode = Std }
@@ -85,7 +85,7 @@ new_modes Release modes = modes
 new_modes Input modes = modes
 new_modes Check modes = modes
 
--- the modes behind an instruction, which changes nothing where it is not allowed
+-- the modes after an instruction, which changes nothing where it is not allowed
 abbrev pub modes_after : SecureInstruction → Modes → Modes
 modes_after instruction modes =
     if allowed_in instruction modes.mode then new_modes instruction modes else modes

@@ -1,4 +1,4 @@
--- The table of rights.
+-- Promise: the table of rights.
 use Rattle.std.specs.Prelude.{Bool, true, false}
 use Rattle.regions.specs.declared.rights.Mode.{Mode}
 use Rattle.regions.specs.declared.rights.Mode.TheVariants.{Std, Te, Ptr, Ssp}

@@ -7,7 +7,7 @@ ghost use Rattle.regions.specs.declared.rights.Class.{Class as SomeClass};
 use crate::layout::Layout;
 use crate::rights::Class;
 
-/// The first address behind the open ones, which begin at 0.
+/// The first address after the open ones, which begin at 0.
 pub const OPEN_END: u32 = 0x1_0000;
 
 /// The address of data block 0. Data block d is at `TREE_START` + 64d.

@@ -1,6 +1,6 @@
 //! How much memory a program has of each class.
 ghost use Rattle.std.specs.Prelude.{◌+◌, ◌≤◌};
-ghost use Rattle.regions.specs.Limits.{max_data_blocks, max_log_blocks, max_shared_bytes};
+ghost use Rattle.regions.specs.declared.layout.TheConstants.{MAX_DATA_BLOCKS, MAX_LOG_BLOCKS, MAX_SHARED_BYTES};
 
 /// The most data blocks that a layout may have: verified, private, constant and code blocks together.
 pub const MAX_DATA_BLOCKS: u32 = 6_561;
@@ -29,7 +29,7 @@ pub struct Layout {
     pub log: u32,
     /// Bytes of shared variables, which are not protected.
     pub shared: u32,
-    pub ghost data_fits: { verified + private + constants + code ≤ max_data_blocks },
-    pub ghost log_fits: { log ≤ max_log_blocks },
-    pub ghost shared_fits: { shared ≤ max_shared_bytes },
+    pub ghost data_fits: { verified + private + constants + code ≤ MAX_DATA_BLOCKS },
+    pub ghost log_fits: { log ≤ MAX_LOG_BLOCKS },
+    pub ghost shared_fits: { shared ≤ MAX_SHARED_BYTES },
 }

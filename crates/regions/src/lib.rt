@@ -3,6 +3,7 @@
 #![tactic(auto)]
 
 mod addresses;
+mod laws;
 mod layout;
 mod modes;
 mod rights;
@@ -12,6 +13,7 @@ pub use addresses::{
     BLOCK_BYTES, LOG_START, OPEN_END, SHARED_START, STORED_BLOCK_BYTES, TREE_START,
     UNTRUSTED_START, class_of,
 };
+pub use laws::tree_laws;
 pub use layout::{Layout, MAX_DATA_BLOCKS, MAX_LOG_BLOCKS, MAX_SHARED_BYTES};
 pub use modes::ModeUnit;
 pub use rights::{Access, Class, Mode, may};

@@ -41,7 +41,7 @@ impl ModeUnit {
     pub fn mode(&self) -> Mode
         ensures mode { result ≡ self.now.mode }
 
-        // What is kept, and comes back behind a suspension, is a mode of the secure program.
+        // What is kept, and comes back after a suspension, is a mode of the secure program.
         ensures kept { IsTrue (is_secure self.now.kept) }
     {
         self.mode

@@ -8,7 +8,7 @@ ghost use Rattle.regions.specs.Rights.{rights};
 /// What the processor runs.
 #[derive(Clone, Copy, Debug, PartialEq, Eq)]
 pub enum Mode {
-    /// Code before the program enters and behind its exit.
+    /// Code before the program enters and after its exit.
     Std,
     /// The secure program, tamper-evident: nobody else can change its data unnoticed.
     Te,

@@ -1,7 +1,7 @@
 //! The tables, typed in by hand, and the edges of each range.
 ghost use Rattle.std.specs.Prelude.{◌≡◌, ◌≤◌};
 ghost use Rattle.regions.specs.Blocks.{data_blocks};
-ghost use Rattle.regions.specs.Limits.{max_data_blocks};
+ghost use Rattle.regions.specs.declared.layout.TheConstants.{MAX_DATA_BLOCKS};
 
 use crate::{
     Access, Class, LOG_START, Layout, Mode, ModeUnit, OPEN_END, SHARED_START, TREE_START,
@@ -19,7 +19,7 @@ const CLASSES: [Class; 6] = [
 
 // A layout with code blocks alone.
 fn code_alone(blocks: u32) -> Layout
-    requires { blocks ≤ max_data_blocks }
+    requires { blocks ≤ MAX_DATA_BLOCKS }
     ensures { data_blocks result ≡ blocks }
 {
     Layout {

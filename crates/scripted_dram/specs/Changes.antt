@@ -4,7 +4,7 @@ use Rattle.aegis_num.specs.declared.storage.Place.{Place}
 use Rattle.aegis_num.specs.declared.storage.Place.TheVariants.{Tree, Log}
 use Rattle.regions.specs.declared.layout.Layout.{Layout}
 use Rattle.regions.specs.Blocks.{data_blocks}
-use Rattle.regions.specs.Tree.{height_of, leaf_of}
+use Rattle.regions.specs.Tree.{leaf_of}
 use Rattle.adversary_script.specs.declared.change.Target.{Target}
 use Rattle.adversary_script.specs.declared.change.Target.TheVariants as target
 use Rattle.adversary_script.specs.declared.change.What.{What}
@@ -19,7 +19,7 @@ pub record State : Type 0 where
 
 -- the place of a data block
 abbrev pub data_place : Layout → ℕ → Place
-data_place layout n = Tree (leaf_of (height_of (data_blocks layout)) n)
+data_place layout n = Tree (leaf_of layout n)
 
 -- the place of a target, if the layout has it
 abbrev pub place_of : Layout → Target → Option Place
