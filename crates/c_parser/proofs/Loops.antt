@@ -2,15 +2,15 @@
 use Rattle.std.proofs.Common.{◌≡◌, ℕ, zero, suc, ◌<◌, Bool, true, false, List, [], ◌∷◌, ◌++◌, length, Option, Some, None, Err, refl, sym, ap, ◌∙◌, arith, append_assoc, append-nil}
 use Rattle.c_token.specs.declared.signs.Sign.{Sign}
 use Rattle.c_token.specs.declared.signs.Sign.TheVariants.{Comma}
-use Rattle.c_parser.specs.declared.expression.Grown.{Grown}
+use Rattle.c_descent.specs.declared.parts.Grown.{Grown}
 use Rattle.c_parser.specs.declared.fault.Fault.{Fault}
 use Rattle.c_parser.specs.declared.fault.Fault.TheVariants.{Expected, Deep, OutOfMemory}
-use Rattle.c_parser.specs.Toks.{Tok}
-use Rattle.c_parser.specs.Reads.{Reads}
-use Rattle.c_parser.specs.Parser.{Reason, expected, deep, Outcome, done, stop, Parser, follow, gives, prepend, many, all, is_left, is_at_sign, behind_comma, separated}
-use Rattle.c_parser.specs.Expressions.{operator_at, joined, chain_with, chain, chained}
+use Rattle.c_grammar.specs.BoundedTokens.{Tok}
+use Rattle.c_parser.specs.CursorAnswers.{Matches}
+use Rattle.c_descent.specs.ListParser.{Reason, expected, deep, Outcome, done, stop, Parser, follow, gives, prepend, many, all, is_left, is_at_sign, after_comma, separated}
+use Rattle.c_descent.specs.ExpressionParser.{operator_at, joined, chain_with, chain, chained}
 
--- What a list's loop keeps: the outcome is what was read so far, and behind it what the rest of the list gives.
+-- What a list's loop keeps: the outcome is what was read so far, and after it what the rest of the list gives.
 pub record Grows {A : Type 0} (outcome : Outcome (List A)) (follows : List Tok → Bool) (p : Parser A) (xs : List A) (s : List Tok) : Type 0 where
   pub turns : ℕ
   pub enough : length s < turns
@@ -50,12 +50,12 @@ first-before x (stop reason s) = refl
 
 -- the first of a list with commas is read
 pub separated-grows : {A : Type 0} (p : Parser A) (s left : List Tok) (x : A)
-    → p s ≡ done x left → Grows (separated p s) (is_at_sign Comma) (behind_comma p) ([] ++ x ∷ []) left
+    → p s ≡ done x left → Grows (separated p s) (is_at_sign Comma) (after_comma p) ([] ++ x ∷ []) left
 unfolding separated all
 separated-grows p s left x e = record {
   turns = suc (length left);
   enough = omega arith;
-  same = rw e (first-before x (many (suc (length left)) (is_at_sign Comma) (behind_comma p) left));
+  same = rw e (first-before x (many (suc (length left)) (is_at_sign Comma) (after_comma p) left));
 }
 
 step-from : {A : Type 0} (outcome : Outcome (List A)) (follows : List Tok → Bool) (p : Parser A) (xs : List A) (s left : List Tok) (x : A) (n : ℕ)
@@ -164,16 +164,16 @@ chains-stop outcome limit operand rank left s rest op reason chains f e =
 -- the same of a fault
 pub chains-fault : (outcome : Outcome Grown) (limit : ℕ) (operand : ℕ → Parser Grown) (rank : ℕ) (left : Grown) (s rest : List Tok) (op : Sign) (fault : Fault)
     → Chains outcome limit operand rank left s
-    → operator_at rank s ≡ Some op → Reads {A = Grown} (Err fault) rest (joined limit operand op left s)
-    → Reads {A = Grown} (Err fault) rest outcome
+    → operator_at rank s ≡ Some op → Matches {A = Grown} (Err fault) rest (joined limit operand op left s)
+    → Matches {A = Grown} (Err fault) rest outcome
 chains-fault outcome limit operand rank left s rest op Expected chains f e = chains-stop outcome limit operand rank left s rest op expected chains f e
 chains-fault outcome limit operand rank left s rest op Deep chains f e = chains-stop outcome limit operand rank left s rest op deep chains f e
 chains-fault outcome limit operand rank left s rest op OutOfMemory chains f e = tt
 
 -- the same of a list
 pub grows-fault : {A : Type 0} (outcome : Outcome (List A)) (follows : List Tok → Bool) (p : Parser A) (xs : List A) (s left : List Tok) (fault : Fault)
-    → Grows outcome follows p xs s → follows s ≡ true → Reads {A = A} (Err fault) left (p s)
-    → Reads {A = List A} (Err fault) left outcome
+    → Grows outcome follows p xs s → follows s ≡ true → Matches {A = A} (Err fault) left (p s)
+    → Matches {A = List A} (Err fault) left outcome
 grows-fault outcome follows p xs s left Expected grows f e = grows-stop outcome follows p xs s left expected grows f e
 grows-fault outcome follows p xs s left Deep grows f e = grows-stop outcome follows p xs s left deep grows f e
 grows-fault outcome follows p xs s left OutOfMemory grows f e = tt

@@ -1,5 +1,2 @@
-pub mod Toks
-pub mod Parser
-pub mod Expressions
-pub mod Statements
-pub mod Reads
+pub mod CursorAnswers
+pub mod Levels

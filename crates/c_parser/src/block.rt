@@ -1,15 +1,14 @@
 //! Blocks, and the statements that hold statements.
 ghost use Rattle.std.specs.Prelude.{◌≡◌};
-ghost use Rattle.c_parser.specs.Statements.{optional_else, conditional, while_loop, for_loop, entry, goes_on, entries, braced, block, statement_inside, statement};
-ghost use Rattle.c_parser.specs.Reads.{Reads, Takes, LeavesUpTo};
+ghost use Rattle.c_descent.specs.StatementParser.{optional_else, conditional, while_loop, for_loop, entry, goes_on, entries, braced, block, statement_inside, statement};
+ghost use Rattle.c_parser.specs.CursorAnswers.{Matches, TakesSome, LeavesUpTo};
 
 use crate::cursor::Cursor;
 use crate::expression::open;
 use crate::fault::Fault;
-use crate::statement::{
-    Braces, LoopHead, Start, barred, condition, empty, head, local_ended, plain_ended, start_at,
-};
+use crate::statement::{barred, condition, empty, head, local_ended, plain_ended, start_at};
 use aegis_num::limits::MAX_BINARY_OPERATORS;
+use c_descent::{Braces, LoopHead, Start};
 use c_grammar::Stmt;
 use c_token::{Sign, Word};
 use sqlite_items::{Boxed, Items};
@@ -17,11 +16,11 @@ use std::alloc::Global;
 
 /// `while ( test ) body`
 #[cycle(statements)]
-#[tactic(auto, unfolding(crate::specs::Statements::while_loop))]
+#[tactic(auto, unfolding(c_descent::specs::StatementParser::while_loop))]
 fn while_loop(alloc: Global, cursor: &mut Cursor<'_>, levels: u32) -> Result<Stmt, Fault>
-    ensures reads { Reads result cursor.new
+    ensures reads { Matches result cursor.new
         (while_loop MAX_BINARY_OPERATORS levels (statement MAX_BINARY_OPERATORS levels) cursor.old) }
-    ensures takes { Takes result cursor.old cursor.new }
+    ensures takes { TakesSome result cursor.old cursor.new }
 {
     let token = cursor.word(Word::While)?;
     let test = condition(alloc, cursor, levels)?;
@@ -32,13 +31,13 @@ fn while_loop(alloc: Global, cursor: &mut Cursor<'_>, levels: u32) -> Result<Stm
 
 /// `else other`, if it stands there.
 #[cycle(statements)]
-#[tactic(auto, unfolding(crate::specs::Statements::optional_else))]
+#[tactic(auto, unfolding(c_descent::specs::StatementParser::optional_else))]
 fn optional_else(
     alloc: Global,
     cursor: &mut Cursor<'_>,
     levels: u32,
 ) -> Result<Option<Boxed<Stmt>>, Fault>
-    ensures reads { Reads result cursor.new
+    ensures reads { Matches result cursor.new
         (optional_else (statement MAX_BINARY_OPERATORS levels) cursor.old) }
     ensures takes { LeavesUpTo result cursor.old cursor.new }
 {
@@ -52,11 +51,11 @@ fn optional_else(
 
 /// `if ( test ) body`, with `else other` where an `else` follows.
 #[cycle(statements)]
-#[tactic(auto, unfolding(crate::specs::Statements::conditional))]
+#[tactic(auto, unfolding(c_descent::specs::StatementParser::conditional))]
 fn conditional(alloc: Global, cursor: &mut Cursor<'_>, levels: u32) -> Result<Stmt, Fault>
-    ensures reads { Reads result cursor.new
+    ensures reads { Matches result cursor.new
         (conditional MAX_BINARY_OPERATORS levels (statement MAX_BINARY_OPERATORS levels) cursor.old) }
-    ensures takes { Takes result cursor.old cursor.new }
+    ensures takes { TakesSome result cursor.old cursor.new }
 {
     let token = cursor.word(Word::If)?;
     let test = condition(alloc, cursor, levels)?;
@@ -73,11 +72,11 @@ fn conditional(alloc: Global, cursor: &mut Cursor<'_>, levels: u32) -> Result<St
 
 /// `for ( first ; test ; step ) body`
 #[cycle(statements)]
-#[tactic(auto, unfolding(crate::specs::Statements::for_loop))]
+#[tactic(auto, unfolding(c_descent::specs::StatementParser::for_loop))]
 fn for_loop(alloc: Global, cursor: &mut Cursor<'_>, levels: u32) -> Result<Stmt, Fault>
-    ensures reads { Reads result cursor.new
+    ensures reads { Matches result cursor.new
         (for_loop MAX_BINARY_OPERATORS levels (statement MAX_BINARY_OPERATORS levels) cursor.old) }
-    ensures takes { Takes result cursor.old cursor.new }
+    ensures takes { TakesSome result cursor.old cursor.new }
 {
     let token = cursor.word(Word::For)?;
     let LoopHead { first, test, step } = head(alloc, cursor, levels)?;
@@ -94,11 +93,11 @@ fn for_loop(alloc: Global, cursor: &mut Cursor<'_>, levels: u32) -> Result<Stmt,
 
 /// A local and its `;`, or a statement.
 #[cycle(statements)]
-#[tactic(auto, unfolding(crate::specs::Statements::entry))]
+#[tactic(auto, unfolding(c_descent::specs::StatementParser::entry))]
 fn entry(alloc: Global, cursor: &mut Cursor<'_>, levels: u32) -> Result<Stmt, Fault>
-    ensures reads { Reads result cursor.new
+    ensures reads { Matches result cursor.new
         (entry MAX_BINARY_OPERATORS levels (statement MAX_BINARY_OPERATORS levels) cursor.old) }
-    ensures takes { Takes result cursor.old cursor.new }
+    ensures takes { TakesSome result cursor.old cursor.new }
 {
     match start_at(cursor) {
         Start::Local => local_ended(alloc, cursor, levels),
@@ -107,7 +106,7 @@ fn entry(alloc: Global, cursor: &mut Cursor<'_>, levels: u32) -> Result<Stmt, Fa
 }
 
 /// Whether a block goes on.
-#[tactic(auto, unfolding(crate::specs::Statements::goes_on))]
+#[tactic(auto, unfolding(c_descent::specs::StatementParser::goes_on))]
 fn goes_on(cursor: &Cursor<'_>) -> bool
     ensures { result ≡ goes_on cursor.now }
 {
@@ -116,9 +115,9 @@ fn goes_on(cursor: &Cursor<'_>) -> bool
 
 /// Locals and statements up to `}`, which is left.
 #[cycle(statements)]
-#[tactic(auto, unfolding(crate::specs::Statements::entries))]
+#[tactic(auto, unfolding(c_descent::specs::StatementParser::entries))]
 fn entries(alloc: Global, cursor: &mut Cursor<'_>, levels: u32) -> Result<Items<Stmt>, Fault>
-    ensures reads { Reads result cursor.new
+    ensures reads { Matches result cursor.new
         (entries MAX_BINARY_OPERATORS levels (statement MAX_BINARY_OPERATORS levels) cursor.old) }
     ensures takes { LeavesUpTo result cursor.old cursor.new }
 {
@@ -132,11 +131,11 @@ fn entries(alloc: Global, cursor: &mut Cursor<'_>, levels: u32) -> Result<Items<
 
 /// `{`, locals and statements, and `}`.
 #[cycle(statements)]
-#[tactic(auto, unfolding(crate::specs::Statements::braced))]
+#[tactic(auto, unfolding(c_descent::specs::StatementParser::braced))]
 pub fn braced(alloc: Global, cursor: &mut Cursor<'_>, levels: u32) -> Result<Braces, Fault>
-    ensures reads { Reads result cursor.new
+    ensures reads { Matches result cursor.new
         (braced MAX_BINARY_OPERATORS levels (statement MAX_BINARY_OPERATORS levels) cursor.old) }
-    ensures takes { Takes result cursor.old cursor.new }
+    ensures takes { TakesSome result cursor.old cursor.new }
 {
     let token = cursor.sign(Sign::LeftBrace)?;
     let body = entries(alloc, cursor, levels)?;
@@ -146,11 +145,11 @@ pub fn braced(alloc: Global, cursor: &mut Cursor<'_>, levels: u32) -> Result<Bra
 
 /// A block as a statement.
 #[cycle(statements)]
-#[tactic(auto, unfolding(crate::specs::Statements::block))]
+#[tactic(auto, unfolding(c_descent::specs::StatementParser::block))]
 fn block(alloc: Global, cursor: &mut Cursor<'_>, levels: u32) -> Result<Stmt, Fault>
-    ensures reads { Reads result cursor.new
+    ensures reads { Matches result cursor.new
         (block MAX_BINARY_OPERATORS levels (statement MAX_BINARY_OPERATORS levels) cursor.old) }
-    ensures takes { Takes result cursor.old cursor.new }
+    ensures takes { TakesSome result cursor.old cursor.new }
 {
     let Braces { body, token } = braced(alloc, cursor, levels)?;
     Ok(Stmt::Block { body, token })
@@ -158,11 +157,11 @@ fn block(alloc: Global, cursor: &mut Cursor<'_>, levels: u32) -> Result<Stmt, Fa
 
 /// A statement whose level is open.
 #[cycle(statements)]
-#[tactic(auto, unfolding(crate::specs::Statements::statement_inside))]
+#[tactic(auto, unfolding(c_descent::specs::StatementParser::statement_inside))]
 fn statement_inside(alloc: Global, cursor: &mut Cursor<'_>, levels: u32) -> Result<Stmt, Fault>
-    ensures reads { Reads result cursor.new
+    ensures reads { Matches result cursor.new
         (statement_inside MAX_BINARY_OPERATORS levels (statement MAX_BINARY_OPERATORS levels) cursor.old) }
-    ensures takes { Takes result cursor.old cursor.new }
+    ensures takes { TakesSome result cursor.old cursor.new }
 {
     match start_at(cursor) {
         Start::Block => block(alloc, cursor, levels),
@@ -178,10 +177,10 @@ fn statement_inside(alloc: Global, cursor: &mut Cursor<'_>, levels: u32) -> Resu
 
 /// A statement.
 #[cycle(statements)]
-#[tactic(auto, unfolding(crate::specs::Statements::statement))]
+#[tactic(auto, unfolding(c_descent::specs::StatementParser::statement))]
 pub fn statement(alloc: Global, cursor: &mut Cursor<'_>, levels: u32) -> Result<Stmt, Fault>
-    ensures reads { Reads result cursor.new (statement MAX_BINARY_OPERATORS levels cursor.old) }
-    ensures takes { Takes result cursor.old cursor.new }
+    ensures reads { Matches result cursor.new (statement MAX_BINARY_OPERATORS levels cursor.old) }
+    ensures takes { TakesSome result cursor.old cursor.new }
 {
     match open(levels) {
         Ok(levels) => statement_inside(alloc, cursor, levels),

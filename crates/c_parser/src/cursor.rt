@@ -1,29 +1,16 @@
 //! What is left of a list of tokens.
 ghost use Rattle.std.specs.Prelude.{◌≡◌, ◌≤◌, length, [], ◌↔◌, IsTrue};
-ghost use Rattle.c_parser.specs.Toks.{numbered, kinds_of};
-ghost use Rattle.c_parser.specs.Parser.{name_of, first_kind, is_left, is_some_sign, is_some_word, is_at_sign, is_at_word, passed, sign, word, name, number};
-ghost use Rattle.c_parser.specs.Reads.{place_or, Reads, Takes};
+ghost use Rattle.c_token.specs.PlainText.{kinds_of};
+ghost use Rattle.c_grammar.specs.BoundedTokens.{numbered};
+ghost use Rattle.c_descent.specs.ListParser.{name_of, first_kind, is_left, is_some_sign, is_some_word, is_at_sign, is_at_word, passed, sign, word, name, number, place_or};
+ghost use Rattle.c_parser.specs.CursorAnswers.{Matches, TakesSome};
 
 use crate::fault::Fault;
 use aegis_num::Name;
 use aegis_num::limits::MAX_SOURCE_BYTES;
+use c_descent::{Named, Numeral};
 use c_token::{Kind, Sign, Token, Word};
 use std::marker::Model;
-
-/// A name, with its token.
-#[derive(Clone, Copy)]
-pub struct Named {
-    pub name: Name,
-    pub token: u32,
-}
-
-/// A number, with its token.
-#[derive(Clone, Copy)]
-pub struct Numeral {
-    pub value: u32,
-    pub unsigned: bool,
-    pub token: u32,
-}
 
 /// The tokens that are left, with the number of the first.
 #[derive(Drop)]
@@ -34,7 +21,8 @@ pub struct Cursor<'a> {
 
 impl<'a> Model for Cursor<'a> {
     ghost use Rattle.std.specs.Prelude.{◌+◌, ◌^◌, ◌<◌, List, length};
-    ghost use Rattle.c_parser.specs.Toks.{Tok, numbered, kinds_of};
+    ghost use Rattle.c_token.specs.PlainText.{kinds_of};
+    ghost use Rattle.c_grammar.specs.BoundedTokens.{Tok, numbered};
 
     ghost Value = { List Tok };
 
@@ -103,7 +91,7 @@ impl<'a> Cursor<'a> {
     }
 
     /// Whether the first token is this sign.
-    #[tactic(auto, unfolding(crate::specs::Parser::is_at_sign))]
+    #[tactic(auto, unfolding(c_descent::specs::ListParser::is_at_sign))]
     pub fn is_at_sign(&self, sign: Sign) -> bool
         ensures { result ≡ is_at_sign sign self.now }
     {
@@ -111,7 +99,7 @@ impl<'a> Cursor<'a> {
     }
 
     /// Whether the first token is this word.
-    #[tactic(auto, unfolding(crate::specs::Parser::is_at_word))]
+    #[tactic(auto, unfolding(c_descent::specs::ListParser::is_at_word))]
     pub fn is_at_word(&self, word: Word) -> bool
         ensures { result ≡ is_at_word word self.now }
     {
@@ -120,8 +108,8 @@ impl<'a> Cursor<'a> {
 
     /// Takes the first token, where it passes, and answers its number.
     fn pass(&mut self, passes: bool) -> Result<u32, Fault>
-        ensures reads { Reads result self.new (passed passes self.old) }
-        ensures takes { Takes result self.old self.new }
+        ensures reads { Matches result self.new (passed passes self.old) }
+        ensures takes { TakesSome result self.old self.new }
     {
         match self.left {
             [_, rest @ ..] if passes => {
@@ -135,20 +123,20 @@ impl<'a> Cursor<'a> {
     }
 
     /// Takes this sign, and answers its number.
-    #[tactic(auto, unfolding(crate::specs::Parser::sign))]
+    #[tactic(auto, unfolding(c_descent::specs::ListParser::sign))]
     pub fn sign(&mut self, wanted: Sign) -> Result<u32, Fault>
-        ensures reads { Reads result self.new (sign wanted self.old) }
-        ensures takes { Takes result self.old self.new }
+        ensures reads { Matches result self.new (sign wanted self.old) }
+        ensures takes { TakesSome result self.old self.new }
     {
         let passes = self.is_at_sign(wanted);
         self.pass(passes)
     }
 
     /// Takes this word, and answers its number.
-    #[tactic(auto, unfolding(crate::specs::Parser::word))]
+    #[tactic(auto, unfolding(c_descent::specs::ListParser::word))]
     pub fn word(&mut self, wanted: Word) -> Result<u32, Fault>
-        ensures reads { Reads result self.new (word wanted self.old) }
-        ensures takes { Takes result self.old self.new }
+        ensures reads { Matches result self.new (word wanted self.old) }
+        ensures takes { TakesSome result self.old self.new }
     {
         let passes = self.is_at_word(wanted);
         self.pass(passes)
@@ -171,10 +159,10 @@ impl<'a> Cursor<'a> {
     }
 
     /// Takes a name.
-    #[tactic(auto, unfolding(crate::specs::Parser::name))]
+    #[tactic(auto, unfolding(c_descent::specs::ListParser::name))]
     pub fn name(&mut self) -> Result<Named, Fault>
-        ensures reads { Reads result self.new (name self.old) }
-        ensures takes { Takes result self.old self.new }
+        ensures reads { Matches result self.new (name self.old) }
+        ensures takes { TakesSome result self.old self.new }
     {
         let Some(name) = self.first_name() else {
             return Err(Fault::Expected);
@@ -184,10 +172,10 @@ impl<'a> Cursor<'a> {
     }
 
     /// Takes a number.
-    #[tactic(auto, unfolding(crate::specs::Parser::number))]
+    #[tactic(auto, unfolding(c_descent::specs::ListParser::number))]
     pub fn number(&mut self) -> Result<Numeral, Fault>
-        ensures reads { Reads result self.new (number self.old) }
-        ensures takes { Takes result self.old self.new }
+        ensures reads { Matches result self.new (number self.old) }
+        ensures takes { TakesSome result self.old self.new }
     {
         match self.first_kind() {
             Some(Kind::Number { value, unsigned }) => {

@@ -1,13 +1,16 @@
 //! Expressions.
 ghost use Rattle.std.specs.Prelude.{◌≡◌, ◌≤◌, ◌+◌, Some};
-ghost use Rattle.c_parser.specs.Parser.{first_kind, behind_comma, separated};
-ghost use Rattle.c_parser.specs.Expressions.{Opens, OpensInside, rank_of, operator_at, unary_of, operand_of, joined, chained, binary, expression, paren, subscript, listed, arguments, indexed, called, behind_name, named, literal, input, primary, signed, unary, inside, expression_at};
-ghost use Rattle.c_parser.specs.Reads.{Reads, Takes, LeavesUpTo};
+ghost use Rattle.c_grammar.specs.Precedence.{loosest};
+ghost use Rattle.c_descent.specs.ListParser.{first_kind, after_comma, separated};
+ghost use Rattle.c_descent.specs.ExpressionParser.{operator_at, unary_of, operand_of, joined, chained, binary, expression, paren, subscript, listed, arguments, indexed, called, after_name, named, literal, input, primary, signed, unary, inside, expression_at};
+ghost use Rattle.c_parser.specs.Levels.{OpensLevel, OpensInside};
+ghost use Rattle.c_parser.specs.CursorAnswers.{Matches, TakesSome, LeavesUpTo};
 
-use crate::cursor::{Cursor, Named};
+use crate::cursor::Cursor;
 use crate::fault::Fault;
 use aegis_num::limits::MAX_BINARY_OPERATORS;
-use c_grammar::Expr;
+use c_descent::{Bracketed, Grown, Named, Operand};
+use c_grammar::{Expr, is_unary_operator, precedence};
 use c_token::{Kind, Sign, Word};
 use sqlite_items::{Boxed, Items};
 use std::alloc::Global;
@@ -15,34 +18,10 @@ use std::alloc::Global;
 /// How many ranks the operators of two operands have.
 const RANKS: u32 = 10;
 
-/// What a token begins that is no operator.
-#[derive(Clone, Copy)]
-pub enum Operand {
-    Number,
-    Name,
-    Input,
-    Paren,
-    Other,
-}
-
-/// A part of an expression, with how many operators of two operands stand in the whole one up to its end.
-#[derive(Drop)]
-pub struct Grown {
-    pub tree: Expr,
-    pub used: u32,
-}
-
-/// What stands between brackets, with the token of the first.
-#[derive(Drop)]
-pub struct Bracketed {
-    pub index: Expr,
-    pub token: u32,
-}
-
 /// How many levels are left when one more is opened.
-#[tactic(auto, unfolding(crate::specs::Expressions::inside, crate::specs::Expressions::unary))]
+#[tactic(auto, unfolding(c_descent::specs::ExpressionParser::inside, c_descent::specs::ExpressionParser::unary))]
 pub fn open(levels: u32) -> Result<u32, Fault>
-    ensures opens { Opens levels result }
+    ensures opens { OpensLevel levels result }
     ensures inside { OpensInside MAX_BINARY_OPERATORS levels result }
 {
     if levels == 0 {
@@ -52,32 +31,13 @@ pub fn open(levels: u32) -> Result<u32, Fault>
     }
 }
 
-/// Which rank an operator of two operands has, from 1 for those that bind tightest. Other signs have rank 0.
-fn rank_of(sign: Sign) -> u32
-    ensures { result ≡ rank_of sign }
-{
-    match sign {
-        Sign::Star | Sign::Slash | Sign::Percent => 1,
-        Sign::Plus | Sign::Minus => 2,
-        Sign::ShiftLeft | Sign::ShiftRight => 3,
-        Sign::LessThan | Sign::GreaterThan | Sign::LessOrEqual | Sign::GreaterOrEqual => 4,
-        Sign::EqualTo | Sign::NotEqualTo => 5,
-        Sign::Ampersand => 6,
-        Sign::Caret => 7,
-        Sign::VerticalBar => 8,
-        Sign::LogicalAnd => 9,
-        Sign::LogicalOr => 10,
-        _ => 0,
-    }
-}
-
 /// The first token, where it is an operator of this rank.
-#[tactic(auto, unfolding(crate::specs::Expressions::operator_at))]
+#[tactic(auto, unfolding(c_descent::specs::ExpressionParser::operator_at))]
 fn operator_at(cursor: &Cursor<'_>, rank: u32) -> Option<Sign>
     ensures { result ≡ operator_at rank cursor.now }
 {
     match cursor.first_kind() {
-        Some(Kind::Sign(op)) if rank_of(op) == rank => Some(op),
+        Some(Kind::Sign(op)) if precedence(op) == rank => Some(op),
         _ => None,
     }
 }
@@ -87,10 +47,7 @@ fn unary_of(kind: Option<Kind>) -> Option<Sign>
     ensures { result ≡ unary_of kind }
 {
     match kind {
-        Some(Kind::Sign(op)) => match op {
-            Sign::Minus | Sign::Tilde | Sign::Exclamation => Some(op),
-            _ => None,
-        },
+        Some(Kind::Sign(op)) if is_unary_operator(op) => Some(op),
         _ => None,
     }
 }
@@ -109,10 +66,10 @@ fn operand_of(kind: Option<Kind>) -> Operand
 }
 
 /// A number.
-#[tactic(auto, unfolding(crate::specs::Expressions::literal))]
+#[tactic(auto, unfolding(c_descent::specs::ExpressionParser::literal))]
 fn literal(cursor: &mut Cursor<'_>) -> Result<Expr, Fault>
-    ensures reads { Reads result cursor.new (literal cursor.old) }
-    ensures takes { Takes result cursor.old cursor.new }
+    ensures reads { Matches result cursor.new (literal cursor.old) }
+    ensures takes { TakesSome result cursor.old cursor.new }
 {
     let found = cursor.number()?;
     Ok(Expr::Number {
@@ -123,10 +80,10 @@ fn literal(cursor: &mut Cursor<'_>) -> Result<Expr, Fault>
 }
 
 /// `input()`
-#[tactic(auto, unfolding(crate::specs::Expressions::input))]
+#[tactic(auto, unfolding(c_descent::specs::ExpressionParser::input))]
 fn input(cursor: &mut Cursor<'_>) -> Result<Expr, Fault>
-    ensures reads { Reads result cursor.new (input cursor.old) }
-    ensures takes { Takes result cursor.old cursor.new }
+    ensures reads { Matches result cursor.new (input cursor.old) }
+    ensures takes { TakesSome result cursor.old cursor.new }
 {
     let token = cursor.word(Word::Input)?;
     cursor.sign(Sign::LeftParenthesis)?;
@@ -136,11 +93,11 @@ fn input(cursor: &mut Cursor<'_>) -> Result<Expr, Fault>
 
 /// An operator of one operand, and the operand.
 #[cycle(expressions)]
-#[tactic(auto, unfolding(crate::specs::Expressions::signed))]
+#[tactic(auto, unfolding(c_descent::specs::ExpressionParser::signed))]
 fn signed(alloc: Global, cursor: &mut Cursor<'_>, levels: u32, op: Sign) -> Result<Expr, Fault>
-    ensures reads { Reads result cursor.new
+    ensures reads { Matches result cursor.new
         (signed (inside MAX_BINARY_OPERATORS levels) op cursor.old) }
-    ensures takes { Takes result cursor.old cursor.new }
+    ensures takes { TakesSome result cursor.old cursor.new }
 {
     let levels = open(levels)?;
     let token = cursor.sign(op)?;
@@ -151,11 +108,11 @@ fn signed(alloc: Global, cursor: &mut Cursor<'_>, levels: u32, op: Sign) -> Resu
 
 /// `(`, an expression and `)`.
 #[cycle(expressions)]
-#[tactic(auto, unfolding(crate::specs::Expressions::paren))]
+#[tactic(auto, unfolding(c_descent::specs::ExpressionParser::paren))]
 fn paren(alloc: Global, cursor: &mut Cursor<'_>, levels: u32) -> Result<Expr, Fault>
-    ensures reads { Reads result cursor.new
+    ensures reads { Matches result cursor.new
         (paren MAX_BINARY_OPERATORS (inside MAX_BINARY_OPERATORS levels) cursor.old) }
-    ensures takes { Takes result cursor.old cursor.new }
+    ensures takes { TakesSome result cursor.old cursor.new }
 {
     let levels = open(levels)?;
     let token = cursor.sign(Sign::LeftParenthesis)?;
@@ -167,11 +124,11 @@ fn paren(alloc: Global, cursor: &mut Cursor<'_>, levels: u32) -> Result<Expr, Fa
 
 /// `[`, an expression and `]`.
 #[cycle(expressions)]
-#[tactic(auto, unfolding(crate::specs::Expressions::subscript))]
+#[tactic(auto, unfolding(c_descent::specs::ExpressionParser::subscript))]
 pub fn subscript(alloc: Global, cursor: &mut Cursor<'_>, levels: u32) -> Result<Bracketed, Fault>
-    ensures reads { Reads result cursor.new
+    ensures reads { Matches result cursor.new
         (subscript MAX_BINARY_OPERATORS (inside MAX_BINARY_OPERATORS levels) cursor.old) }
-    ensures takes { Takes result cursor.old cursor.new }
+    ensures takes { TakesSome result cursor.old cursor.new }
 {
     let levels = open(levels)?;
     let token = cursor.sign(Sign::LeftBracket)?;
@@ -180,13 +137,13 @@ pub fn subscript(alloc: Global, cursor: &mut Cursor<'_>, levels: u32) -> Result<
     Ok(Bracketed { index, token })
 }
 
-/// A comma, and the expression behind it.
+/// A comma, and the expression after it.
 #[cycle(expressions)]
-#[tactic(auto, unfolding(crate::specs::Parser::behind_comma))]
-fn behind_comma(alloc: Global, cursor: &mut Cursor<'_>, levels: u32) -> Result<Expr, Fault>
-    ensures reads { Reads result cursor.new
-        (behind_comma (expression_at MAX_BINARY_OPERATORS levels) cursor.old) }
-    ensures takes { Takes result cursor.old cursor.new }
+#[tactic(auto, unfolding(c_descent::specs::ListParser::after_comma))]
+fn after_comma(alloc: Global, cursor: &mut Cursor<'_>, levels: u32) -> Result<Expr, Fault>
+    ensures reads { Matches result cursor.new
+        (after_comma (expression_at MAX_BINARY_OPERATORS levels) cursor.old) }
+    ensures takes { TakesSome result cursor.old cursor.new }
 {
     cursor.sign(Sign::Comma)?;
     expression(alloc, cursor, levels)
@@ -194,17 +151,17 @@ fn behind_comma(alloc: Global, cursor: &mut Cursor<'_>, levels: u32) -> Result<E
 
 /// One or more expressions, with commas between them.
 #[cycle(expressions)]
-#[tactic(auto, unfolding(crate::specs::Parser::separated))]
+#[tactic(auto, unfolding(c_descent::specs::ListParser::separated))]
 fn separated(alloc: Global, cursor: &mut Cursor<'_>, levels: u32) -> Result<Items<Expr>, Fault>
-    ensures reads { Reads result cursor.new
+    ensures reads { Matches result cursor.new
         (separated (expression_at MAX_BINARY_OPERATORS levels) cursor.old) }
-    ensures takes { Takes result cursor.old cursor.new }
+    ensures takes { TakesSome result cursor.old cursor.new }
 {
     let mut trees = Items::new(alloc);
     let first = expression(alloc, cursor, levels)?;
     trees.push(first)?;
     'each: while cursor.is_at_sign(Sign::Comma) {
-        let tree = behind_comma(alloc, cursor, levels)?;
+        let tree = after_comma(alloc, cursor, levels)?;
         trees.push(tree)?;
     }
     Ok(trees)
@@ -212,9 +169,9 @@ fn separated(alloc: Global, cursor: &mut Cursor<'_>, levels: u32) -> Result<Item
 
 /// Arguments up to `)`, which is left.
 #[cycle(expressions)]
-#[tactic(auto, unfolding(crate::specs::Expressions::listed))]
+#[tactic(auto, unfolding(c_descent::specs::ExpressionParser::listed))]
 fn listed(alloc: Global, cursor: &mut Cursor<'_>, levels: u32) -> Result<Items<Expr>, Fault>
-    ensures reads { Reads result cursor.new
+    ensures reads { Matches result cursor.new
         (listed MAX_BINARY_OPERATORS (unary MAX_BINARY_OPERATORS levels) cursor.old) }
     ensures takes { LeavesUpTo result cursor.old cursor.new }
 {
@@ -227,11 +184,11 @@ fn listed(alloc: Global, cursor: &mut Cursor<'_>, levels: u32) -> Result<Items<E
 
 /// `(`, arguments and `)`.
 #[cycle(expressions)]
-#[tactic(auto, unfolding(crate::specs::Expressions::arguments))]
+#[tactic(auto, unfolding(c_descent::specs::ExpressionParser::arguments))]
 pub fn arguments(alloc: Global, cursor: &mut Cursor<'_>, levels: u32) -> Result<Items<Expr>, Fault>
-    ensures reads { Reads result cursor.new
+    ensures reads { Matches result cursor.new
         (arguments MAX_BINARY_OPERATORS (inside MAX_BINARY_OPERATORS levels) cursor.old) }
-    ensures takes { Takes result cursor.old cursor.new }
+    ensures takes { TakesSome result cursor.old cursor.new }
 {
     let levels = open(levels)?;
     cursor.sign(Sign::LeftParenthesis)?;
@@ -240,13 +197,13 @@ pub fn arguments(alloc: Global, cursor: &mut Cursor<'_>, levels: u32) -> Result<
     Ok(trees)
 }
 
-/// `[ index ]` behind a name.
+/// `[ index ]` after a name.
 #[cycle(expressions)]
-#[tactic(auto, unfolding(crate::specs::Expressions::indexed))]
+#[tactic(auto, unfolding(c_descent::specs::ExpressionParser::indexed))]
 fn indexed(alloc: Global, cursor: &mut Cursor<'_>, levels: u32, name: Named) -> Result<Expr, Fault>
-    ensures reads { Reads result cursor.new
+    ensures reads { Matches result cursor.new
         (indexed MAX_BINARY_OPERATORS (inside MAX_BINARY_OPERATORS levels) name cursor.old) }
-    ensures takes { Takes result cursor.old cursor.new }
+    ensures takes { TakesSome result cursor.old cursor.new }
 {
     let Bracketed { index, token } = subscript(alloc, cursor, levels)?;
     let index = Boxed::new(alloc, index)?;
@@ -257,13 +214,13 @@ fn indexed(alloc: Global, cursor: &mut Cursor<'_>, levels: u32, name: Named) -> 
     })
 }
 
-/// `( arguments )` behind a name.
+/// `( arguments )` after a name.
 #[cycle(expressions)]
-#[tactic(auto, unfolding(crate::specs::Expressions::called))]
+#[tactic(auto, unfolding(c_descent::specs::ExpressionParser::called))]
 fn called(alloc: Global, cursor: &mut Cursor<'_>, levels: u32, name: Named) -> Result<Expr, Fault>
-    ensures reads { Reads result cursor.new
+    ensures reads { Matches result cursor.new
         (called MAX_BINARY_OPERATORS (inside MAX_BINARY_OPERATORS levels) name cursor.old) }
-    ensures takes { Takes result cursor.old cursor.new }
+    ensures takes { TakesSome result cursor.old cursor.new }
 {
     let arguments = arguments(alloc, cursor, levels)?;
     Ok(Expr::Call {
@@ -273,17 +230,17 @@ fn called(alloc: Global, cursor: &mut Cursor<'_>, levels: u32, name: Named) -> R
     })
 }
 
-/// What may stand behind a name: an index, arguments, or nothing.
+/// What may stand after a name: an index, arguments, or nothing.
 #[cycle(expressions)]
-#[tactic(auto, unfolding(crate::specs::Expressions::behind_name))]
-fn behind_name(
+#[tactic(auto, unfolding(c_descent::specs::ExpressionParser::after_name))]
+fn after_name(
     alloc: Global,
     cursor: &mut Cursor<'_>,
     levels: u32,
     name: Named,
 ) -> Result<Expr, Fault>
-    ensures reads { Reads result cursor.new
-        (behind_name MAX_BINARY_OPERATORS (inside MAX_BINARY_OPERATORS levels) name cursor.old) }
+    ensures reads { Matches result cursor.new
+        (after_name MAX_BINARY_OPERATORS (inside MAX_BINARY_OPERATORS levels) name cursor.old) }
     ensures takes { LeavesUpTo result cursor.old cursor.new }
 {
     if cursor.is_at_sign(Sign::LeftBracket) {
@@ -300,23 +257,23 @@ fn behind_name(
 
 /// A name, with an index or arguments.
 #[cycle(expressions)]
-#[tactic(auto, unfolding(crate::specs::Expressions::named))]
+#[tactic(auto, unfolding(c_descent::specs::ExpressionParser::named))]
 fn named(alloc: Global, cursor: &mut Cursor<'_>, levels: u32) -> Result<Expr, Fault>
-    ensures reads { Reads result cursor.new
+    ensures reads { Matches result cursor.new
         (named MAX_BINARY_OPERATORS (inside MAX_BINARY_OPERATORS levels) cursor.old) }
-    ensures takes { Takes result cursor.old cursor.new }
+    ensures takes { TakesSome result cursor.old cursor.new }
 {
     let name = cursor.name()?;
-    behind_name(alloc, cursor, levels, name)
+    after_name(alloc, cursor, levels, name)
 }
 
 /// What is no operator: a number, a name, `input()` or an expression between parentheses.
 #[cycle(expressions)]
-#[tactic(auto, unfolding(crate::specs::Expressions::primary))]
+#[tactic(auto, unfolding(c_descent::specs::ExpressionParser::primary))]
 fn primary(alloc: Global, cursor: &mut Cursor<'_>, levels: u32) -> Result<Expr, Fault>
-    ensures reads { Reads result cursor.new
+    ensures reads { Matches result cursor.new
         (primary MAX_BINARY_OPERATORS (inside MAX_BINARY_OPERATORS levels) cursor.old) }
-    ensures takes { Takes result cursor.old cursor.new }
+    ensures takes { TakesSome result cursor.old cursor.new }
 {
     match operand_of(cursor.first_kind()) {
         Operand::Number => literal(cursor),
@@ -329,10 +286,10 @@ fn primary(alloc: Global, cursor: &mut Cursor<'_>, levels: u32) -> Result<Expr, 
 
 /// A unary expression.
 #[cycle(expressions)]
-#[tactic(auto, unfolding(crate::specs::Expressions::unary, crate::specs::Expressions::unary_in))]
+#[tactic(auto, unfolding(c_descent::specs::ExpressionParser::unary, c_descent::specs::ExpressionParser::unary_in))]
 fn unary(alloc: Global, cursor: &mut Cursor<'_>, levels: u32) -> Result<Expr, Fault>
-    ensures reads { Reads result cursor.new (unary MAX_BINARY_OPERATORS levels cursor.old) }
-    ensures takes { Takes result cursor.old cursor.new }
+    ensures reads { Matches result cursor.new (unary MAX_BINARY_OPERATORS levels cursor.old) }
+    ensures takes { TakesSome result cursor.old cursor.new }
 {
     match unary_of(cursor.first_kind()) {
         Some(op) => signed(alloc, cursor, levels, op),
@@ -343,7 +300,7 @@ fn unary(alloc: Global, cursor: &mut Cursor<'_>, levels: u32) -> Result<Expr, Fa
 /// An operator at the next token, and its right operand, whose operators have at most this rank. The left operand is
 /// here already.
 #[cycle(expressions)]
-#[tactic(auto, unfolding(crate::specs::Expressions::joined))]
+#[tactic(auto, unfolding(c_descent::specs::ExpressionParser::joined))]
 fn joined(
     alloc: Global,
     cursor: &mut Cursor<'_>,
@@ -352,11 +309,11 @@ fn joined(
     op: Sign,
     left: Grown,
 ) -> Result<Grown, Fault>
-    requires { rank ≤ 10 }
-    ensures reads { Reads result cursor.new
+    requires { rank ≤ loosest }
+    ensures reads { Matches result cursor.new
         (joined MAX_BINARY_OPERATORS (binary MAX_BINARY_OPERATORS (unary MAX_BINARY_OPERATORS levels) rank) op left
         cursor.old) }
-    ensures takes { Takes result cursor.old cursor.new }
+    ensures takes { TakesSome result cursor.old cursor.new }
 {
     let Grown { tree: left, used } = left;
     if used >= MAX_BINARY_OPERATORS {
@@ -378,7 +335,7 @@ fn joined(
 
 /// The operators of the rank above this one and their right operands, all grouping to the left.
 #[cycle(expressions)]
-#[tactic(auto, unfolding(crate::specs::Expressions::chained))]
+#[tactic(auto, unfolding(c_descent::specs::ExpressionParser::chained))]
 fn chained(
     alloc: Global,
     cursor: &mut Cursor<'_>,
@@ -386,8 +343,8 @@ fn chained(
     rank: u32,
     left: Grown,
 ) -> Result<Grown, Fault>
-    requires { rank ≤ 10 }
-    ensures reads { Reads result cursor.new
+    requires { rank ≤ loosest }
+    ensures reads { Matches result cursor.new
         (chained MAX_BINARY_OPERATORS (binary MAX_BINARY_OPERATORS (unary MAX_BINARY_OPERATORS levels) rank) (rank + 1)
         left cursor.old) }
     ensures takes { LeavesUpTo result cursor.old cursor.new }
@@ -401,7 +358,7 @@ fn chained(
 
 /// An expression whose operators have at most this rank, where so many operators stand before it in the whole one.
 #[cycle(expressions)]
-#[tactic(auto, unfolding(crate::specs::Expressions::binary))]
+#[tactic(auto, unfolding(c_descent::specs::ExpressionParser::binary))]
 fn binary(
     alloc: Global,
     cursor: &mut Cursor<'_>,
@@ -409,10 +366,10 @@ fn binary(
     rank: u32,
     used: u32,
 ) -> Result<Grown, Fault>
-    requires { rank ≤ 10 }
-    ensures reads { Reads result cursor.new
+    requires { rank ≤ loosest }
+    ensures reads { Matches result cursor.new
         (binary MAX_BINARY_OPERATORS (unary MAX_BINARY_OPERATORS levels) rank used cursor.old) }
-    ensures takes { Takes result cursor.old cursor.new }
+    ensures takes { TakesSome result cursor.old cursor.new }
 {
     if rank == 0 {
         let tree = unary(alloc, cursor, levels)?;
@@ -424,10 +381,10 @@ fn binary(
 
 /// An expression.
 #[cycle(expressions)]
-#[tactic(auto, unfolding(crate::specs::Expressions::expression))]
+#[tactic(auto, unfolding(c_descent::specs::ExpressionParser::expression))]
 pub fn expression(alloc: Global, cursor: &mut Cursor<'_>, levels: u32) -> Result<Expr, Fault>
-    ensures reads { Reads result cursor.new (expression_at MAX_BINARY_OPERATORS levels cursor.old) }
-    ensures takes { Takes result cursor.old cursor.new }
+    ensures reads { Matches result cursor.new (expression_at MAX_BINARY_OPERATORS levels cursor.old) }
+    ensures takes { TakesSome result cursor.old cursor.new }
 {
     let grown = binary(alloc, cursor, levels, RANKS, 0)?;
     Ok(grown.tree)

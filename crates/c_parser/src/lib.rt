@@ -10,6 +10,6 @@ mod statement;
 mod tests;
 
 pub use block::braced;
-pub use cursor::{Cursor, Named, Numeral};
+pub use cursor::Cursor;
 pub use fault::Fault;
-pub use statement::{Braces, type_name};
+pub use statement::type_name;

@@ -1,58 +1,18 @@
 //! Locals and statements.
 ghost use Rattle.std.specs.Prelude.{◌≡◌};
-ghost use Rattle.c_parser.specs.Parser.{follow, gives, sign};
-ghost use Rattle.c_parser.specs.Statements.{start_of, start_at, plain_of, plain_at, begins_statement, begins_simple, int_type, optional_int, unsigned_type, type_name, expression_unless, optional_value, local_inside, local, assigned, element_assigned, call, behind_name, named, condition, release, check, simple_inside, simple, plain_inside, ended, empty, returned, break_statement, continue_statement, while_loop, optional_else, conditional, first_part, step_part, opening, test_part, closing, head, for_loop, entry, entries, braced, block, statement_inside, barred, statement};
-ghost use Rattle.c_parser.specs.Reads.{Reads, IsFault, Takes, LeavesUpTo};
+ghost use Rattle.c_descent.specs.ListParser.{follow, gives, sign};
+ghost use Rattle.c_descent.specs.StatementParser.{start_of, start_at, plain_of, plain_at, begins_statement, begins_simple, int_type, optional_int, unsigned_type, type_name, expression_unless, optional_value, local_inside, local, assigned, element_assigned, call, after_name, named, condition, release, check, simple_inside, simple, plain_inside, ended, empty, returned, break_statement, continue_statement, while_loop, optional_else, conditional, first_part, step_part, opening, test_part, closing, head, for_loop, entry, entries, braced, block, statement_inside, barred, statement};
+ghost use Rattle.c_parser.specs.CursorAnswers.{Matches, IsFault, TakesSome, LeavesUpTo};
 
-use crate::cursor::{Cursor, Named};
-use crate::expression::{Bracketed, arguments, expression, open, subscript};
+use crate::cursor::Cursor;
+use crate::expression::{arguments, expression, open, subscript};
 use crate::fault::Fault;
 use aegis_num::limits::MAX_BINARY_OPERATORS;
+use c_descent::{Bracketed, LoopHead, Named, Plain, Start};
 use c_grammar::{Expr, Stmt};
 use c_token::{Kind, Sign, Word};
 use sqlite_items::{Boxed, Items};
 use std::alloc::Global;
-
-/// What a token begins in a block.
-#[derive(Clone, Copy)]
-pub enum Start {
-    Local,
-    Block,
-    Empty,
-    /// A statement that a `;` ends.
-    Plain,
-    If,
-    While,
-    For,
-    Other,
-}
-
-/// Which statement of those that a `;` ends a token begins.
-#[derive(Clone, Copy)]
-pub enum Plain {
-    Named,
-    Release,
-    Check,
-    Return,
-    Break,
-    Continue,
-    Other,
-}
-
-/// What stands between the parentheses of a `for`.
-#[derive(Drop)]
-pub struct LoopHead {
-    pub first: Option<Boxed<Stmt>>,
-    pub test: Option<Expr>,
-    pub step: Option<Boxed<Stmt>>,
-}
-
-/// Locals and statements between braces, with the token of the first brace.
-#[derive(Drop)]
-pub struct Braces {
-    pub body: Items<Stmt>,
-    pub token: u32,
-}
 
 /// What a token begins in a block.
 fn start_of(kind: Option<Kind>) -> Start
@@ -79,7 +39,7 @@ fn start_of(kind: Option<Kind>) -> Start
 }
 
 /// What the first token begins in a block.
-#[tactic(auto, unfolding(crate::specs::Statements::start_at))]
+#[tactic(auto, unfolding(c_descent::specs::StatementParser::start_at))]
 pub fn start_at(cursor: &Cursor<'_>) -> Start
     ensures { result ≡ start_at cursor.now }
 {
@@ -105,7 +65,7 @@ fn plain_of(kind: Option<Kind>) -> Plain
 }
 
 /// Which statement of those that a `;` ends the first token begins.
-#[tactic(auto, unfolding(crate::specs::Statements::plain_at))]
+#[tactic(auto, unfolding(c_descent::specs::StatementParser::plain_at))]
 fn plain_at(cursor: &Cursor<'_>) -> Plain
     ensures { result ≡ plain_at cursor.now }
 {
@@ -133,19 +93,19 @@ fn begins_simple(plain: Plain) -> bool
 }
 
 /// `int`, which is not unsigned.
-#[tactic(auto, unfolding(crate::specs::Statements::int_type))]
+#[tactic(auto, unfolding(c_descent::specs::StatementParser::int_type))]
 fn int_type(cursor: &mut Cursor<'_>) -> Result<bool, Fault>
-    ensures reads { Reads result cursor.new (int_type cursor.old) }
-    ensures takes { Takes result cursor.old cursor.new }
+    ensures reads { Matches result cursor.new (int_type cursor.old) }
+    ensures takes { TakesSome result cursor.old cursor.new }
 {
     cursor.word(Word::Int)?;
     Ok(false)
 }
 
 /// The word `int`, if it stands there.
-#[tactic(auto, unfolding(crate::specs::Statements::optional_int))]
+#[tactic(auto, unfolding(c_descent::specs::StatementParser::optional_int))]
 fn optional_int(cursor: &mut Cursor<'_>) -> Result<bool, Fault>
-    ensures reads { Reads result cursor.new (optional_int cursor.old) }
+    ensures reads { Matches result cursor.new (optional_int cursor.old) }
     ensures takes { LeavesUpTo result cursor.old cursor.new }
 {
     if cursor.is_at_word(Word::Int) {
@@ -156,20 +116,20 @@ fn optional_int(cursor: &mut Cursor<'_>) -> Result<bool, Fault>
 }
 
 /// `unsigned` or `unsigned int`.
-#[tactic(auto, unfolding(crate::specs::Statements::unsigned_type))]
+#[tactic(auto, unfolding(c_descent::specs::StatementParser::unsigned_type))]
 fn unsigned_type(cursor: &mut Cursor<'_>) -> Result<bool, Fault>
-    ensures reads { Reads result cursor.new (unsigned_type cursor.old) }
-    ensures takes { Takes result cursor.old cursor.new }
+    ensures reads { Matches result cursor.new (unsigned_type cursor.old) }
+    ensures takes { TakesSome result cursor.old cursor.new }
 {
     cursor.word(Word::Unsigned)?;
     optional_int(cursor)
 }
 
 /// A type, and whether it is `unsigned`.
-#[tactic(auto, unfolding(crate::specs::Statements::type_name))]
+#[tactic(auto, unfolding(c_descent::specs::StatementParser::type_name))]
 pub fn type_name(cursor: &mut Cursor<'_>) -> Result<bool, Fault>
-    ensures reads { Reads result cursor.new (type_name cursor.old) }
-    ensures takes { Takes result cursor.old cursor.new }
+    ensures reads { Matches result cursor.new (type_name cursor.old) }
+    ensures takes { TakesSome result cursor.old cursor.new }
 {
     if cursor.is_at_word(Word::Int) {
         int_type(cursor)
@@ -179,14 +139,14 @@ pub fn type_name(cursor: &mut Cursor<'_>) -> Result<bool, Fault>
 }
 
 /// An expression, or none where nothing stands there.
-#[tactic(auto, unfolding(crate::specs::Statements::expression_unless))]
+#[tactic(auto, unfolding(c_descent::specs::StatementParser::expression_unless))]
 fn expression_unless(
     alloc: Global,
     cursor: &mut Cursor<'_>,
     levels: u32,
     nothing: bool,
 ) -> Result<Option<Expr>, Fault>
-    ensures reads { Reads result cursor.new
+    ensures reads { Matches result cursor.new
         (expression_unless MAX_BINARY_OPERATORS levels nothing cursor.old) }
     ensures takes { LeavesUpTo result cursor.old cursor.new }
 {
@@ -198,13 +158,13 @@ fn expression_unless(
 }
 
 /// `= value`, if it stands there.
-#[tactic(auto, unfolding(crate::specs::Statements::optional_value))]
+#[tactic(auto, unfolding(c_descent::specs::StatementParser::optional_value))]
 fn optional_value(
     alloc: Global,
     cursor: &mut Cursor<'_>,
     levels: u32,
 ) -> Result<Option<Expr>, Fault>
-    ensures reads { Reads result cursor.new (optional_value MAX_BINARY_OPERATORS levels cursor.old) }
+    ensures reads { Matches result cursor.new (optional_value MAX_BINARY_OPERATORS levels cursor.old) }
     ensures takes { LeavesUpTo result cursor.old cursor.new }
 {
     if cursor.is_at_sign(Sign::Assign) {
@@ -216,10 +176,10 @@ fn optional_value(
 }
 
 /// A local, whose level is open.
-#[tactic(auto, unfolding(crate::specs::Statements::local_inside))]
+#[tactic(auto, unfolding(c_descent::specs::StatementParser::local_inside))]
 fn local_inside(alloc: Global, cursor: &mut Cursor<'_>, levels: u32) -> Result<Stmt, Fault>
-    ensures reads { Reads result cursor.new (local_inside MAX_BINARY_OPERATORS levels cursor.old) }
-    ensures takes { Takes result cursor.old cursor.new }
+    ensures reads { Matches result cursor.new (local_inside MAX_BINARY_OPERATORS levels cursor.old) }
+    ensures takes { TakesSome result cursor.old cursor.new }
 {
     let unsigned = type_name(cursor)?;
     let found = cursor.name()?;
@@ -233,17 +193,17 @@ fn local_inside(alloc: Global, cursor: &mut Cursor<'_>, levels: u32) -> Result<S
 }
 
 /// A local, which is a statement of its own.
-#[tactic(auto, unfolding(crate::specs::Statements::local))]
+#[tactic(auto, unfolding(c_descent::specs::StatementParser::local))]
 fn local(alloc: Global, cursor: &mut Cursor<'_>, levels: u32) -> Result<Stmt, Fault>
-    ensures reads { Reads result cursor.new (local MAX_BINARY_OPERATORS levels cursor.old) }
-    ensures takes { Takes result cursor.old cursor.new }
+    ensures reads { Matches result cursor.new (local MAX_BINARY_OPERATORS levels cursor.old) }
+    ensures takes { TakesSome result cursor.old cursor.new }
 {
     let levels = open(levels)?;
     local_inside(alloc, cursor, levels)
 }
 
-/// `= value` behind what is assigned to.
-#[tactic(auto, unfolding(crate::specs::Statements::assigned))]
+/// `= value` after what is assigned to.
+#[tactic(auto, unfolding(c_descent::specs::StatementParser::assigned))]
 fn assigned(
     alloc: Global,
     cursor: &mut Cursor<'_>,
@@ -251,9 +211,9 @@ fn assigned(
     found: Named,
     index: Option<Expr>,
 ) -> Result<Stmt, Fault>
-    ensures reads { Reads result cursor.new
+    ensures reads { Matches result cursor.new
         (assigned MAX_BINARY_OPERATORS levels found index cursor.old) }
-    ensures takes { Takes result cursor.old cursor.new }
+    ensures takes { TakesSome result cursor.old cursor.new }
 {
     cursor.sign(Sign::Assign)?;
     let value = expression(alloc, cursor, levels)?;
@@ -265,27 +225,27 @@ fn assigned(
     })
 }
 
-/// `[ index ] = value` behind a name.
-#[tactic(auto, unfolding(crate::specs::Statements::element_assigned))]
+/// `[ index ] = value` after a name.
+#[tactic(auto, unfolding(c_descent::specs::StatementParser::element_assigned))]
 fn element_assigned(
     alloc: Global,
     cursor: &mut Cursor<'_>,
     levels: u32,
     found: Named,
 ) -> Result<Stmt, Fault>
-    ensures reads { Reads result cursor.new
+    ensures reads { Matches result cursor.new
         (element_assigned MAX_BINARY_OPERATORS levels found cursor.old) }
-    ensures takes { Takes result cursor.old cursor.new }
+    ensures takes { TakesSome result cursor.old cursor.new }
 {
     let Bracketed { index, token: _ } = subscript(alloc, cursor, levels)?;
     assigned(alloc, cursor, levels, found, Some(index))
 }
 
-/// `( arguments )` behind a name.
-#[tactic(auto, unfolding(crate::specs::Statements::call))]
+/// `( arguments )` after a name.
+#[tactic(auto, unfolding(c_descent::specs::StatementParser::call))]
 fn call(alloc: Global, cursor: &mut Cursor<'_>, levels: u32, found: Named) -> Result<Stmt, Fault>
-    ensures reads { Reads result cursor.new (call MAX_BINARY_OPERATORS levels found cursor.old) }
-    ensures takes { Takes result cursor.old cursor.new }
+    ensures reads { Matches result cursor.new (call MAX_BINARY_OPERATORS levels found cursor.old) }
+    ensures takes { TakesSome result cursor.old cursor.new }
 {
     let arguments = arguments(alloc, cursor, levels)?;
     Ok(Stmt::Call {
@@ -295,17 +255,17 @@ fn call(alloc: Global, cursor: &mut Cursor<'_>, levels: u32, found: Named) -> Re
     })
 }
 
-/// What stands behind the name that a statement begins with.
-#[tactic(auto, unfolding(crate::specs::Statements::behind_name))]
-fn behind_name(
+/// What stands after the name that a statement begins with.
+#[tactic(auto, unfolding(c_descent::specs::StatementParser::after_name))]
+fn after_name(
     alloc: Global,
     cursor: &mut Cursor<'_>,
     levels: u32,
     found: Named,
 ) -> Result<Stmt, Fault>
-    ensures reads { Reads result cursor.new
-        (behind_name MAX_BINARY_OPERATORS levels found cursor.old) }
-    ensures takes { Takes result cursor.old cursor.new }
+    ensures reads { Matches result cursor.new
+        (after_name MAX_BINARY_OPERATORS levels found cursor.old) }
+    ensures takes { TakesSome result cursor.old cursor.new }
 {
     if cursor.is_at_sign(Sign::LeftBracket) {
         return element_assigned(alloc, cursor, levels, found);
@@ -317,20 +277,20 @@ fn behind_name(
 }
 
 /// An assignment or a call.
-#[tactic(auto, unfolding(crate::specs::Statements::named))]
+#[tactic(auto, unfolding(c_descent::specs::StatementParser::named))]
 fn named(alloc: Global, cursor: &mut Cursor<'_>, levels: u32) -> Result<Stmt, Fault>
-    ensures reads { Reads result cursor.new (named MAX_BINARY_OPERATORS levels cursor.old) }
-    ensures takes { Takes result cursor.old cursor.new }
+    ensures reads { Matches result cursor.new (named MAX_BINARY_OPERATORS levels cursor.old) }
+    ensures takes { TakesSome result cursor.old cursor.new }
 {
     let found = cursor.name()?;
-    behind_name(alloc, cursor, levels, found)
+    after_name(alloc, cursor, levels, found)
 }
 
 /// `( value )`
-#[tactic(auto, unfolding(crate::specs::Statements::condition))]
+#[tactic(auto, unfolding(c_descent::specs::StatementParser::condition))]
 pub fn condition(alloc: Global, cursor: &mut Cursor<'_>, levels: u32) -> Result<Expr, Fault>
-    ensures reads { Reads result cursor.new (condition MAX_BINARY_OPERATORS levels cursor.old) }
-    ensures takes { Takes result cursor.old cursor.new }
+    ensures reads { Matches result cursor.new (condition MAX_BINARY_OPERATORS levels cursor.old) }
+    ensures takes { TakesSome result cursor.old cursor.new }
 {
     cursor.sign(Sign::LeftParenthesis)?;
     let value = expression(alloc, cursor, levels)?;
@@ -339,10 +299,10 @@ pub fn condition(alloc: Global, cursor: &mut Cursor<'_>, levels: u32) -> Result<
 }
 
 /// `release ( value )`
-#[tactic(auto, unfolding(crate::specs::Statements::release))]
+#[tactic(auto, unfolding(c_descent::specs::StatementParser::release))]
 fn release(alloc: Global, cursor: &mut Cursor<'_>, levels: u32) -> Result<Stmt, Fault>
-    ensures reads { Reads result cursor.new (release MAX_BINARY_OPERATORS levels cursor.old) }
-    ensures takes { Takes result cursor.old cursor.new }
+    ensures reads { Matches result cursor.new (release MAX_BINARY_OPERATORS levels cursor.old) }
+    ensures takes { TakesSome result cursor.old cursor.new }
 {
     let token = cursor.word(Word::Release)?;
     let value = condition(alloc, cursor, levels)?;
@@ -350,10 +310,10 @@ fn release(alloc: Global, cursor: &mut Cursor<'_>, levels: u32) -> Result<Stmt, 
 }
 
 /// `check ( )`
-#[tactic(auto, unfolding(crate::specs::Statements::check))]
+#[tactic(auto, unfolding(c_descent::specs::StatementParser::check))]
 fn check(cursor: &mut Cursor<'_>) -> Result<Stmt, Fault>
-    ensures reads { Reads result cursor.new (check cursor.old) }
-    ensures takes { Takes result cursor.old cursor.new }
+    ensures reads { Matches result cursor.new (check cursor.old) }
+    ensures takes { TakesSome result cursor.old cursor.new }
 {
     let token = cursor.word(Word::Check)?;
     cursor.sign(Sign::LeftParenthesis)?;
@@ -362,10 +322,10 @@ fn check(cursor: &mut Cursor<'_>) -> Result<Stmt, Fault>
 }
 
 /// A simple statement without its `;`, whose level is open.
-#[tactic(auto, unfolding(crate::specs::Statements::simple_inside))]
+#[tactic(auto, unfolding(c_descent::specs::StatementParser::simple_inside))]
 fn simple_inside(alloc: Global, cursor: &mut Cursor<'_>, levels: u32) -> Result<Stmt, Fault>
-    ensures reads { Reads result cursor.new (simple_inside MAX_BINARY_OPERATORS levels cursor.old) }
-    ensures takes { Takes result cursor.old cursor.new }
+    ensures reads { Matches result cursor.new (simple_inside MAX_BINARY_OPERATORS levels cursor.old) }
+    ensures takes { TakesSome result cursor.old cursor.new }
 {
     match plain_at(cursor) {
         Plain::Named => named(alloc, cursor, levels),
@@ -376,10 +336,10 @@ fn simple_inside(alloc: Global, cursor: &mut Cursor<'_>, levels: u32) -> Result<
 }
 
 /// A simple part of the head of a `for`, which is a statement of its own.
-#[tactic(auto, unfolding(crate::specs::Statements::simple))]
+#[tactic(auto, unfolding(c_descent::specs::StatementParser::simple))]
 fn simple(alloc: Global, cursor: &mut Cursor<'_>, levels: u32) -> Result<Stmt, Fault>
-    ensures reads { Reads result cursor.new (simple MAX_BINARY_OPERATORS levels cursor.old) }
-    ensures takes { Takes result cursor.old cursor.new }
+    ensures reads { Matches result cursor.new (simple MAX_BINARY_OPERATORS levels cursor.old) }
+    ensures takes { TakesSome result cursor.old cursor.new }
 {
     if begins_simple(plain_at(cursor)) {
         let levels = open(levels)?;
@@ -389,10 +349,10 @@ fn simple(alloc: Global, cursor: &mut Cursor<'_>, levels: u32) -> Result<Stmt, F
 }
 
 /// `return` and a value, if one stands there.
-#[tactic(auto, unfolding(crate::specs::Statements::returned))]
+#[tactic(auto, unfolding(c_descent::specs::StatementParser::returned))]
 fn returned(alloc: Global, cursor: &mut Cursor<'_>, levels: u32) -> Result<Stmt, Fault>
-    ensures reads { Reads result cursor.new (returned MAX_BINARY_OPERATORS levels cursor.old) }
-    ensures takes { Takes result cursor.old cursor.new }
+    ensures reads { Matches result cursor.new (returned MAX_BINARY_OPERATORS levels cursor.old) }
+    ensures takes { TakesSome result cursor.old cursor.new }
 {
     let token = cursor.word(Word::Return)?;
     let nothing = cursor.is_at_sign(Sign::Semicolon);
@@ -401,40 +361,40 @@ fn returned(alloc: Global, cursor: &mut Cursor<'_>, levels: u32) -> Result<Stmt,
 }
 
 /// `break`
-#[tactic(auto, unfolding(crate::specs::Statements::break_statement))]
+#[tactic(auto, unfolding(c_descent::specs::StatementParser::break_statement))]
 fn break_statement(cursor: &mut Cursor<'_>) -> Result<Stmt, Fault>
-    ensures reads { Reads result cursor.new (break_statement cursor.old) }
-    ensures takes { Takes result cursor.old cursor.new }
+    ensures reads { Matches result cursor.new (break_statement cursor.old) }
+    ensures takes { TakesSome result cursor.old cursor.new }
 {
     let token = cursor.word(Word::Break)?;
     Ok(Stmt::Break { token })
 }
 
 /// `continue`
-#[tactic(auto, unfolding(crate::specs::Statements::continue_statement))]
+#[tactic(auto, unfolding(c_descent::specs::StatementParser::continue_statement))]
 fn continue_statement(cursor: &mut Cursor<'_>) -> Result<Stmt, Fault>
-    ensures reads { Reads result cursor.new (continue_statement cursor.old) }
-    ensures takes { Takes result cursor.old cursor.new }
+    ensures reads { Matches result cursor.new (continue_statement cursor.old) }
+    ensures takes { TakesSome result cursor.old cursor.new }
 {
     let token = cursor.word(Word::Continue)?;
     Ok(Stmt::Continue { token })
 }
 
 /// `;`
-#[tactic(auto, unfolding(crate::specs::Statements::empty))]
+#[tactic(auto, unfolding(c_descent::specs::StatementParser::empty))]
 pub fn empty(cursor: &mut Cursor<'_>) -> Result<Stmt, Fault>
-    ensures reads { Reads result cursor.new (empty cursor.old) }
-    ensures takes { Takes result cursor.old cursor.new }
+    ensures reads { Matches result cursor.new (empty cursor.old) }
+    ensures takes { TakesSome result cursor.old cursor.new }
 {
     let token = cursor.sign(Sign::Semicolon)?;
     Ok(Stmt::Empty { token })
 }
 
 /// What a `;` ends, whose level is open.
-#[tactic(auto, unfolding(crate::specs::Statements::plain_inside))]
+#[tactic(auto, unfolding(c_descent::specs::StatementParser::plain_inside))]
 fn plain_inside(alloc: Global, cursor: &mut Cursor<'_>, levels: u32) -> Result<Stmt, Fault>
-    ensures reads { Reads result cursor.new (plain_inside MAX_BINARY_OPERATORS levels cursor.old) }
-    ensures takes { Takes result cursor.old cursor.new }
+    ensures reads { Matches result cursor.new (plain_inside MAX_BINARY_OPERATORS levels cursor.old) }
+    ensures takes { TakesSome result cursor.old cursor.new }
 {
     match plain_at(cursor) {
         Plain::Named => named(alloc, cursor, levels),
@@ -448,11 +408,11 @@ fn plain_inside(alloc: Global, cursor: &mut Cursor<'_>, levels: u32) -> Result<S
 }
 
 /// A local or a statement and the `;` that ends it.
-#[tactic(auto, unfolding(crate::specs::Statements::ended))]
+#[tactic(auto, unfolding(c_descent::specs::StatementParser::ended))]
 pub fn plain_ended(alloc: Global, cursor: &mut Cursor<'_>, levels: u32) -> Result<Stmt, Fault>
-    ensures reads { Reads result cursor.new
+    ensures reads { Matches result cursor.new
         (ended (plain_inside MAX_BINARY_OPERATORS levels) cursor.old) }
-    ensures takes { Takes result cursor.old cursor.new }
+    ensures takes { TakesSome result cursor.old cursor.new }
 {
     let tree = plain_inside(alloc, cursor, levels)?;
     cursor.sign(Sign::Semicolon)?;
@@ -460,11 +420,11 @@ pub fn plain_ended(alloc: Global, cursor: &mut Cursor<'_>, levels: u32) -> Resul
 }
 
 /// A local and its `;`.
-#[tactic(auto, unfolding(crate::specs::Statements::ended))]
+#[tactic(auto, unfolding(c_descent::specs::StatementParser::ended))]
 pub fn local_ended(alloc: Global, cursor: &mut Cursor<'_>, levels: u32) -> Result<Stmt, Fault>
-    ensures reads { Reads result cursor.new
+    ensures reads { Matches result cursor.new
         (ended (local MAX_BINARY_OPERATORS levels) cursor.old) }
-    ensures takes { Takes result cursor.old cursor.new }
+    ensures takes { TakesSome result cursor.old cursor.new }
 {
     let tree = local(alloc, cursor, levels)?;
     cursor.sign(Sign::Semicolon)?;
@@ -472,13 +432,13 @@ pub fn local_ended(alloc: Global, cursor: &mut Cursor<'_>, levels: u32) -> Resul
 }
 
 /// A part of the head of a `for` that stands there.
-#[tactic(auto, unfolding(crate::specs::Statements::first_part))]
+#[tactic(auto, unfolding(c_descent::specs::StatementParser::first_part))]
 fn first_part(
     alloc: Global,
     cursor: &mut Cursor<'_>,
     levels: u32,
 ) -> Result<Option<Boxed<Stmt>>, Fault>
-    ensures reads { Reads result cursor.new (first_part MAX_BINARY_OPERATORS levels cursor.old) }
+    ensures reads { Matches result cursor.new (first_part MAX_BINARY_OPERATORS levels cursor.old) }
     ensures takes { LeavesUpTo result cursor.old cursor.new }
 {
     match start_at(cursor) {
@@ -495,13 +455,13 @@ fn first_part(
 }
 
 /// The last part of the head of a `for`: a simple part or nothing.
-#[tactic(auto, unfolding(crate::specs::Statements::step_part))]
+#[tactic(auto, unfolding(c_descent::specs::StatementParser::step_part))]
 fn step_part(
     alloc: Global,
     cursor: &mut Cursor<'_>,
     levels: u32,
 ) -> Result<Option<Boxed<Stmt>>, Fault>
-    ensures reads { Reads result cursor.new (step_part MAX_BINARY_OPERATORS levels cursor.old) }
+    ensures reads { Matches result cursor.new (step_part MAX_BINARY_OPERATORS levels cursor.old) }
     ensures takes { LeavesUpTo result cursor.old cursor.new }
 {
     if cursor.is_at_sign(Sign::RightParenthesis) {
@@ -512,14 +472,14 @@ fn step_part(
 }
 
 /// `( first ;`
-#[tactic(auto, unfolding(crate::specs::Statements::opening))]
+#[tactic(auto, unfolding(c_descent::specs::StatementParser::opening))]
 fn opening(
     alloc: Global,
     cursor: &mut Cursor<'_>,
     levels: u32,
 ) -> Result<Option<Boxed<Stmt>>, Fault>
-    ensures reads { Reads result cursor.new (opening MAX_BINARY_OPERATORS levels cursor.old) }
-    ensures takes { Takes result cursor.old cursor.new }
+    ensures reads { Matches result cursor.new (opening MAX_BINARY_OPERATORS levels cursor.old) }
+    ensures takes { TakesSome result cursor.old cursor.new }
 {
     cursor.sign(Sign::LeftParenthesis)?;
     let first = first_part(alloc, cursor, levels)?;
@@ -528,10 +488,10 @@ fn opening(
 }
 
 /// `test ;`
-#[tactic(auto, unfolding(crate::specs::Statements::test_part))]
+#[tactic(auto, unfolding(c_descent::specs::StatementParser::test_part))]
 fn test_part(alloc: Global, cursor: &mut Cursor<'_>, levels: u32) -> Result<Option<Expr>, Fault>
-    ensures reads { Reads result cursor.new (test_part MAX_BINARY_OPERATORS levels cursor.old) }
-    ensures takes { Takes result cursor.old cursor.new }
+    ensures reads { Matches result cursor.new (test_part MAX_BINARY_OPERATORS levels cursor.old) }
+    ensures takes { TakesSome result cursor.old cursor.new }
 {
     let nothing = cursor.is_at_sign(Sign::Semicolon);
     let test = expression_unless(alloc, cursor, levels, nothing)?;
@@ -540,14 +500,14 @@ fn test_part(alloc: Global, cursor: &mut Cursor<'_>, levels: u32) -> Result<Opti
 }
 
 /// `step )`
-#[tactic(auto, unfolding(crate::specs::Statements::closing))]
+#[tactic(auto, unfolding(c_descent::specs::StatementParser::closing))]
 fn closing(
     alloc: Global,
     cursor: &mut Cursor<'_>,
     levels: u32,
 ) -> Result<Option<Boxed<Stmt>>, Fault>
-    ensures reads { Reads result cursor.new (closing MAX_BINARY_OPERATORS levels cursor.old) }
-    ensures takes { Takes result cursor.old cursor.new }
+    ensures reads { Matches result cursor.new (closing MAX_BINARY_OPERATORS levels cursor.old) }
+    ensures takes { TakesSome result cursor.old cursor.new }
 {
     let step = step_part(alloc, cursor, levels)?;
     cursor.sign(Sign::RightParenthesis)?;
@@ -555,10 +515,10 @@ fn closing(
 }
 
 /// `( first ; test ; step )`
-#[tactic(auto, unfolding(crate::specs::Statements::head))]
+#[tactic(auto, unfolding(c_descent::specs::StatementParser::head))]
 pub fn head(alloc: Global, cursor: &mut Cursor<'_>, levels: u32) -> Result<LoopHead, Fault>
-    ensures reads { Reads result cursor.new (head MAX_BINARY_OPERATORS levels cursor.old) }
-    ensures takes { Takes result cursor.old cursor.new }
+    ensures reads { Matches result cursor.new (head MAX_BINARY_OPERATORS levels cursor.old) }
+    ensures takes { TakesSome result cursor.old cursor.new }
 {
     let first = opening(alloc, cursor, levels)?;
     let test = test_part(alloc, cursor, levels)?;
@@ -567,7 +527,7 @@ pub fn head(alloc: Global, cursor: &mut Cursor<'_>, levels: u32) -> Result<LoopH
 }
 
 /// Why no statement is read where no level is left: it would open one too many.
-#[tactic(auto, unfolding(crate::specs::Statements::barred))]
+#[tactic(auto, unfolding(c_descent::specs::StatementParser::barred))]
 pub fn barred(cursor: &Cursor<'_>) -> Fault
     ensures { IsFault result cursor.now (barred cursor.now) }
 {

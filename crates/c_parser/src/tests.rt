@@ -1,5 +1,6 @@
-use crate::{Braces, Cursor, Fault, Named, Numeral, braced, type_name};
+use crate::{Cursor, Fault, braced, type_name};
 use aegis_num::limits::{MAX_NESTING, MAX_SOURCE_BYTES};
+use c_descent::{Braces, Named, Numeral};
 use c_token::{Kind, Sign, Token, Word, tokens};
 use std::alloc::Global;
 use std::process::Abort;

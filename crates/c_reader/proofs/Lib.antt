@@ -1,4 +1,1 @@
-mod Declaring
-mod Recognising
-pub mod Answered
-mod WorkedPlaces
+mod Answering

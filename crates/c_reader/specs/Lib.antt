@@ -1,4 +1,3 @@
-pub mod Programs
-pub mod Reads
+pub mod ReaderAnswers
 pub mod Refusals
 pub mod SourceText

@@ -1,37 +1,17 @@
 //! Items, and whole programs.
 ghost use Rattle.std.specs.Prelude.{◌≡◌, [], OnOk};
-ghost use Rattle.c_parser.specs.Parser.{separated, behind_comma};
-ghost use Rattle.c_parser.specs.Statements.{statement};
-ghost use Rattle.c_reader.specs.Programs.{heading_of, heading_at, optional_length, object_rest, object, value_with, negative_value, value, one_value, braced_values, values, constant_rest, constant, no_parameters, untrusted, parameter, void_list, listed, parameters, function_rest, void_function, storage_of, result_of, typed_rest, typed, declared, private_item, item_inside, items, program};
-ghost use Rattle.c_parser.specs.Reads.{Reads, Takes, LeavesUpTo};
+ghost use Rattle.c_descent.specs.ListParser.{separated, after_comma};
+ghost use Rattle.c_descent.specs.StatementParser.{statement};
+ghost use Rattle.c_descent.specs.ProgramParser.{heading_of, heading_at, optional_length, object_rest, object, value_with, negative_value, value, one_value, braced_values, values, constant_rest, constant, no_parameters, untrusted, parameter, void_list, listed, parameters, function_rest, void_function, storage_of, result_of, typed_rest, typed, declared, private_item, item_inside, items, program};
+ghost use Rattle.c_parser.specs.CursorAnswers.{Matches, TakesSome, LeavesUpTo};
 
 use aegis_num::limits::{MAX_BINARY_OPERATORS, MAX_NESTING};
 use c_grammar::{Item, Kind3, Parameter, Program, Storage, Value};
-use c_parser::{Braces, Cursor, Fault, Named, braced, type_name};
+use c_descent::{Braces, Given, Heading, Named};
+use c_parser::{Cursor, Fault, braced, type_name};
 use c_token::{Kind, Sign, Word};
 use sqlite_items::Items;
 use std::alloc::Global;
-
-/// What a token begins at the top of a program.
-#[derive(Clone, Copy)]
-pub enum Heading {
-    Verified,
-    Shared,
-    Logged,
-    Private,
-    Constant,
-    Untrusted,
-    Void,
-    Type,
-    Other,
-}
-
-/// The values of a constant, and whether they stand between braces.
-#[derive(Drop)]
-pub struct Given {
-    pub values: Items<Value>,
-    pub braces: bool,
-}
 
 /// What a token begins at the top of a program.
 fn heading_of(kind: Option<Kind>) -> Heading
@@ -54,7 +34,7 @@ fn heading_of(kind: Option<Kind>) -> Heading
 }
 
 /// What the first token begins at the top of a program.
-#[tactic(auto, unfolding(crate::specs::Programs::heading_at))]
+#[tactic(auto, unfolding(c_descent::specs::ProgramParser::heading_at))]
 fn heading_at(cursor: &Cursor<'_>) -> Heading
     ensures { result ≡ heading_at cursor.now }
 {
@@ -62,9 +42,9 @@ fn heading_at(cursor: &Cursor<'_>) -> Heading
 }
 
 /// `[ length ]`, if it stands there.
-#[tactic(auto, unfolding(crate::specs::Programs::optional_length))]
+#[tactic(auto, unfolding(c_descent::specs::ProgramParser::optional_length))]
 fn optional_length(cursor: &mut Cursor<'_>) -> Result<Option<u32>, Fault>
-    ensures reads { Reads result cursor.new (optional_length cursor.old) }
+    ensures reads { Matches result cursor.new (optional_length cursor.old) }
     ensures takes { LeavesUpTo result cursor.old cursor.new }
 {
     if cursor.is_at_sign(Sign::LeftBracket) {
@@ -76,16 +56,16 @@ fn optional_length(cursor: &mut Cursor<'_>) -> Result<Option<u32>, Fault>
     Ok(None)
 }
 
-/// What stands behind the name of an object.
-#[tactic(auto, unfolding(crate::specs::Programs::object_rest))]
+/// What stands after the name of an object.
+#[tactic(auto, unfolding(c_descent::specs::ProgramParser::object_rest))]
 fn object_rest(
     cursor: &mut Cursor<'_>,
     class: Storage,
     unsigned: bool,
     found: Named,
 ) -> Result<Item, Fault>
-    ensures reads { Reads result cursor.new (object_rest class unsigned found cursor.old) }
-    ensures takes { Takes result cursor.old cursor.new }
+    ensures reads { Matches result cursor.new (object_rest class unsigned found cursor.old) }
+    ensures takes { TakesSome result cursor.old cursor.new }
 {
     let length = optional_length(cursor)?;
     cursor.sign(Sign::Semicolon)?;
@@ -98,11 +78,11 @@ fn object_rest(
     })
 }
 
-/// A word of storage, and the object behind it.
-#[tactic(auto, unfolding(crate::specs::Programs::object))]
+/// A word of storage, and the object after it.
+#[tactic(auto, unfolding(c_descent::specs::ProgramParser::object))]
 fn object(cursor: &mut Cursor<'_>, word: Word, class: Storage) -> Result<Item, Fault>
-    ensures reads { Reads result cursor.new (object word class cursor.old) }
-    ensures takes { Takes result cursor.old cursor.new }
+    ensures reads { Matches result cursor.new (object word class cursor.old) }
+    ensures takes { TakesSome result cursor.old cursor.new }
 {
     cursor.word(word)?;
     let unsigned = type_name(cursor)?;
@@ -111,10 +91,10 @@ fn object(cursor: &mut Cursor<'_>, word: Word, class: Storage) -> Result<Item, F
 }
 
 /// A number, of this sign.
-#[tactic(auto, unfolding(crate::specs::Programs::value_with))]
+#[tactic(auto, unfolding(c_descent::specs::ProgramParser::value_with))]
 fn value_with(cursor: &mut Cursor<'_>, negative: bool) -> Result<Value, Fault>
-    ensures reads { Reads result cursor.new (value_with negative cursor.old) }
-    ensures takes { Takes result cursor.old cursor.new }
+    ensures reads { Matches result cursor.new (value_with negative cursor.old) }
+    ensures takes { TakesSome result cursor.old cursor.new }
 {
     let found = cursor.number()?;
     Ok(Value {
@@ -125,20 +105,20 @@ fn value_with(cursor: &mut Cursor<'_>, negative: bool) -> Result<Value, Fault>
 }
 
 /// `-` and a number.
-#[tactic(auto, unfolding(crate::specs::Programs::negative_value))]
+#[tactic(auto, unfolding(c_descent::specs::ProgramParser::negative_value))]
 fn negative_value(cursor: &mut Cursor<'_>) -> Result<Value, Fault>
-    ensures reads { Reads result cursor.new (negative_value cursor.old) }
-    ensures takes { Takes result cursor.old cursor.new }
+    ensures reads { Matches result cursor.new (negative_value cursor.old) }
+    ensures takes { TakesSome result cursor.old cursor.new }
 {
     cursor.sign(Sign::Minus)?;
     value_with(cursor, true)
 }
 
 /// A value of a constant.
-#[tactic(auto, unfolding(crate::specs::Programs::value))]
+#[tactic(auto, unfolding(c_descent::specs::ProgramParser::value))]
 fn value(cursor: &mut Cursor<'_>) -> Result<Value, Fault>
-    ensures reads { Reads result cursor.new (value cursor.old) }
-    ensures takes { Takes result cursor.old cursor.new }
+    ensures reads { Matches result cursor.new (value cursor.old) }
+    ensures takes { TakesSome result cursor.old cursor.new }
 {
     if cursor.is_at_sign(Sign::Minus) {
         negative_value(cursor)
@@ -147,21 +127,21 @@ fn value(cursor: &mut Cursor<'_>) -> Result<Value, Fault>
     }
 }
 
-/// A comma, and the value behind it.
-#[tactic(auto, unfolding(c_parser::specs::Parser::behind_comma))]
+/// A comma, and the value after it.
+#[tactic(auto, unfolding(c_descent::specs::ListParser::after_comma))]
 fn next_value(cursor: &mut Cursor<'_>) -> Result<Value, Fault>
-    ensures reads { Reads result cursor.new (behind_comma value cursor.old) }
-    ensures takes { Takes result cursor.old cursor.new }
+    ensures reads { Matches result cursor.new (after_comma value cursor.old) }
+    ensures takes { TakesSome result cursor.old cursor.new }
 {
     cursor.sign(Sign::Comma)?;
     value(cursor)
 }
 
 /// One or more values, with commas between them.
-#[tactic(auto, unfolding(c_parser::specs::Parser::separated))]
+#[tactic(auto, unfolding(c_descent::specs::ListParser::separated))]
 fn separated_values(alloc: Global, cursor: &mut Cursor<'_>) -> Result<Items<Value>, Fault>
-    ensures reads { Reads result cursor.new (separated value cursor.old) }
-    ensures takes { Takes result cursor.old cursor.new }
+    ensures reads { Matches result cursor.new (separated value cursor.old) }
+    ensures takes { TakesSome result cursor.old cursor.new }
 {
     let mut values = Items::new(alloc);
     let first = value(cursor)?;
@@ -174,10 +154,10 @@ fn separated_values(alloc: Global, cursor: &mut Cursor<'_>) -> Result<Items<Valu
 }
 
 /// A value alone.
-#[tactic(auto, unfolding(crate::specs::Programs::one_value))]
+#[tactic(auto, unfolding(c_descent::specs::ProgramParser::one_value))]
 fn one_value(alloc: Global, cursor: &mut Cursor<'_>) -> Result<Given, Fault>
-    ensures reads { Reads result cursor.new (one_value cursor.old) }
-    ensures takes { Takes result cursor.old cursor.new }
+    ensures reads { Matches result cursor.new (one_value cursor.old) }
+    ensures takes { TakesSome result cursor.old cursor.new }
 {
     let only = value(cursor)?;
     let mut values = Items::new(alloc);
@@ -189,10 +169,10 @@ fn one_value(alloc: Global, cursor: &mut Cursor<'_>) -> Result<Given, Fault>
 }
 
 /// Values between braces.
-#[tactic(auto, unfolding(crate::specs::Programs::braced_values))]
+#[tactic(auto, unfolding(c_descent::specs::ProgramParser::braced_values))]
 fn braced_values(alloc: Global, cursor: &mut Cursor<'_>) -> Result<Given, Fault>
-    ensures reads { Reads result cursor.new (braced_values cursor.old) }
-    ensures takes { Takes result cursor.old cursor.new }
+    ensures reads { Matches result cursor.new (braced_values cursor.old) }
+    ensures takes { TakesSome result cursor.old cursor.new }
 {
     cursor.sign(Sign::LeftBrace)?;
     let values = separated_values(alloc, cursor)?;
@@ -204,10 +184,10 @@ fn braced_values(alloc: Global, cursor: &mut Cursor<'_>) -> Result<Given, Fault>
 }
 
 /// What a constant is given.
-#[tactic(auto, unfolding(crate::specs::Programs::values))]
+#[tactic(auto, unfolding(c_descent::specs::ProgramParser::values))]
 fn values(alloc: Global, cursor: &mut Cursor<'_>) -> Result<Given, Fault>
-    ensures reads { Reads result cursor.new (values cursor.old) }
-    ensures takes { Takes result cursor.old cursor.new }
+    ensures reads { Matches result cursor.new (values cursor.old) }
+    ensures takes { TakesSome result cursor.old cursor.new }
 {
     if cursor.is_at_sign(Sign::LeftBrace) {
         braced_values(alloc, cursor)
@@ -216,16 +196,16 @@ fn values(alloc: Global, cursor: &mut Cursor<'_>) -> Result<Given, Fault>
     }
 }
 
-/// What stands behind the name of a constant.
-#[tactic(auto, unfolding(crate::specs::Programs::constant_rest))]
+/// What stands after the name of a constant.
+#[tactic(auto, unfolding(c_descent::specs::ProgramParser::constant_rest))]
 fn constant_rest(
     alloc: Global,
     cursor: &mut Cursor<'_>,
     unsigned: bool,
     found: Named,
 ) -> Result<Item, Fault>
-    ensures reads { Reads result cursor.new (constant_rest unsigned found cursor.old) }
-    ensures takes { Takes result cursor.old cursor.new }
+    ensures reads { Matches result cursor.new (constant_rest unsigned found cursor.old) }
+    ensures takes { TakesSome result cursor.old cursor.new }
 {
     let length = optional_length(cursor)?;
     cursor.sign(Sign::Assign)?;
@@ -242,10 +222,10 @@ fn constant_rest(
 }
 
 /// A constant.
-#[tactic(auto, unfolding(crate::specs::Programs::constant))]
+#[tactic(auto, unfolding(c_descent::specs::ProgramParser::constant))]
 fn constant(alloc: Global, cursor: &mut Cursor<'_>) -> Result<Item, Fault>
-    ensures reads { Reads result cursor.new (constant cursor.old) }
-    ensures takes { Takes result cursor.old cursor.new }
+    ensures reads { Matches result cursor.new (constant cursor.old) }
+    ensures takes { TakesSome result cursor.old cursor.new }
 {
     cursor.word(Word::Const)?;
     let unsigned = type_name(cursor)?;
@@ -254,10 +234,10 @@ fn constant(alloc: Global, cursor: &mut Cursor<'_>) -> Result<Item, Fault>
 }
 
 /// `( void ) ;`
-#[tactic(auto, unfolding(crate::specs::Programs::no_parameters))]
+#[tactic(auto, unfolding(c_descent::specs::ProgramParser::no_parameters))]
 fn no_parameters(cursor: &mut Cursor<'_>) -> Result<u32, Fault>
-    ensures reads { Reads result cursor.new (no_parameters cursor.old) }
-    ensures takes { Takes result cursor.old cursor.new }
+    ensures reads { Matches result cursor.new (no_parameters cursor.old) }
+    ensures takes { TakesSome result cursor.old cursor.new }
 {
     cursor.sign(Sign::LeftParenthesis)?;
     cursor.word(Word::Void)?;
@@ -266,10 +246,10 @@ fn no_parameters(cursor: &mut Cursor<'_>) -> Result<u32, Fault>
 }
 
 /// A function of the untrusted code.
-#[tactic(auto, unfolding(crate::specs::Programs::untrusted))]
+#[tactic(auto, unfolding(c_descent::specs::ProgramParser::untrusted))]
 fn untrusted(cursor: &mut Cursor<'_>) -> Result<Item, Fault>
-    ensures reads { Reads result cursor.new (untrusted cursor.old) }
-    ensures takes { Takes result cursor.old cursor.new }
+    ensures reads { Matches result cursor.new (untrusted cursor.old) }
+    ensures takes { TakesSome result cursor.old cursor.new }
 {
     cursor.word(Word::Untrusted)?;
     cursor.word(Word::Void)?;
@@ -282,10 +262,10 @@ fn untrusted(cursor: &mut Cursor<'_>) -> Result<Item, Fault>
 }
 
 /// A parameter.
-#[tactic(auto, unfolding(crate::specs::Programs::parameter))]
+#[tactic(auto, unfolding(c_descent::specs::ProgramParser::parameter))]
 fn parameter(cursor: &mut Cursor<'_>) -> Result<Parameter, Fault>
-    ensures reads { Reads result cursor.new (parameter cursor.old) }
-    ensures takes { Takes result cursor.old cursor.new }
+    ensures reads { Matches result cursor.new (parameter cursor.old) }
+    ensures takes { TakesSome result cursor.old cursor.new }
 {
     let unsigned = type_name(cursor)?;
     let found = cursor.name()?;
@@ -296,21 +276,21 @@ fn parameter(cursor: &mut Cursor<'_>) -> Result<Parameter, Fault>
     })
 }
 
-/// A comma, and the parameter behind it.
-#[tactic(auto, unfolding(c_parser::specs::Parser::behind_comma))]
+/// A comma, and the parameter after it.
+#[tactic(auto, unfolding(c_descent::specs::ListParser::after_comma))]
 fn next_parameter(cursor: &mut Cursor<'_>) -> Result<Parameter, Fault>
-    ensures reads { Reads result cursor.new (behind_comma parameter cursor.old) }
-    ensures takes { Takes result cursor.old cursor.new }
+    ensures reads { Matches result cursor.new (after_comma parameter cursor.old) }
+    ensures takes { TakesSome result cursor.old cursor.new }
 {
     cursor.sign(Sign::Comma)?;
     parameter(cursor)
 }
 
 /// One or more parameters, with commas between them.
-#[tactic(auto, unfolding(c_parser::specs::Parser::separated))]
+#[tactic(auto, unfolding(c_descent::specs::ListParser::separated))]
 fn separated_parameters(alloc: Global, cursor: &mut Cursor<'_>) -> Result<Items<Parameter>, Fault>
-    ensures reads { Reads result cursor.new (separated parameter cursor.old) }
-    ensures takes { Takes result cursor.old cursor.new }
+    ensures reads { Matches result cursor.new (separated parameter cursor.old) }
+    ensures takes { TakesSome result cursor.old cursor.new }
 {
     let mut parameters = Items::new(alloc);
     let first = parameter(cursor)?;
@@ -323,19 +303,19 @@ fn separated_parameters(alloc: Global, cursor: &mut Cursor<'_>) -> Result<Items<
 }
 
 /// The word `void` in the place of parameters.
-#[tactic(auto, unfolding(crate::specs::Programs::void_list))]
+#[tactic(auto, unfolding(c_descent::specs::ProgramParser::void_list))]
 fn void_list(alloc: Global, cursor: &mut Cursor<'_>) -> Result<Items<Parameter>, Fault>
-    ensures reads { Reads result cursor.new (void_list cursor.old) }
-    ensures takes { Takes result cursor.old cursor.new }
+    ensures reads { Matches result cursor.new (void_list cursor.old) }
+    ensures takes { TakesSome result cursor.old cursor.new }
 {
     cursor.word(Word::Void)?;
     Ok(Items::new(alloc))
 }
 
 /// Parameters, `void` or nothing, up to `)`, which is left.
-#[tactic(auto, unfolding(crate::specs::Programs::listed))]
+#[tactic(auto, unfolding(c_descent::specs::ProgramParser::listed))]
 fn listed(alloc: Global, cursor: &mut Cursor<'_>) -> Result<Items<Parameter>, Fault>
-    ensures reads { Reads result cursor.new (listed cursor.old) }
+    ensures reads { Matches result cursor.new (listed cursor.old) }
     ensures takes { LeavesUpTo result cursor.old cursor.new }
 {
     if cursor.is_at_sign(Sign::RightParenthesis) {
@@ -348,10 +328,10 @@ fn listed(alloc: Global, cursor: &mut Cursor<'_>) -> Result<Items<Parameter>, Fa
 }
 
 /// `(`, parameters and `)`.
-#[tactic(auto, unfolding(crate::specs::Programs::parameters))]
+#[tactic(auto, unfolding(c_descent::specs::ProgramParser::parameters))]
 fn parameters(alloc: Global, cursor: &mut Cursor<'_>) -> Result<Items<Parameter>, Fault>
-    ensures reads { Reads result cursor.new (parameters cursor.old) }
-    ensures takes { Takes result cursor.old cursor.new }
+    ensures reads { Matches result cursor.new (parameters cursor.old) }
+    ensures takes { TakesSome result cursor.old cursor.new }
 {
     cursor.sign(Sign::LeftParenthesis)?;
     let parameters = listed(alloc, cursor)?;
@@ -359,8 +339,8 @@ fn parameters(alloc: Global, cursor: &mut Cursor<'_>) -> Result<Items<Parameter>
     Ok(parameters)
 }
 
-/// What stands behind the name of a function.
-#[tactic(auto, unfolding(crate::specs::Programs::function_rest))]
+/// What stands after the name of a function.
+#[tactic(auto, unfolding(c_descent::specs::ProgramParser::function_rest))]
 fn function_rest(
     alloc: Global,
     cursor: &mut Cursor<'_>,
@@ -368,9 +348,9 @@ fn function_rest(
     answers: Kind3,
     found: Named,
 ) -> Result<Item, Fault>
-    ensures reads { Reads result cursor.new
+    ensures reads { Matches result cursor.new
         (function_rest MAX_BINARY_OPERATORS MAX_NESTING private answers found cursor.old) }
-    ensures takes { Takes result cursor.old cursor.new }
+    ensures takes { TakesSome result cursor.old cursor.new }
 {
     let params = parameters(alloc, cursor)?;
     let Braces { body, token: _ } = braced(alloc, cursor, MAX_NESTING)?;
@@ -385,11 +365,11 @@ fn function_rest(
 }
 
 /// A function that answers nothing.
-#[tactic(auto, unfolding(crate::specs::Programs::void_function))]
+#[tactic(auto, unfolding(c_descent::specs::ProgramParser::void_function))]
 fn void_function(alloc: Global, cursor: &mut Cursor<'_>, private: bool) -> Result<Item, Fault>
-    ensures reads { Reads result cursor.new
+    ensures reads { Matches result cursor.new
         (void_function MAX_BINARY_OPERATORS MAX_NESTING private cursor.old) }
-    ensures takes { Takes result cursor.old cursor.new }
+    ensures takes { TakesSome result cursor.old cursor.new }
 {
     cursor.word(Word::Void)?;
     let found = cursor.name()?;
@@ -418,8 +398,8 @@ fn result_of(unsigned: bool) -> Kind3
     }
 }
 
-/// What stands behind a type and a name: a function's parameters, or the rest of an object.
-#[tactic(auto, unfolding(crate::specs::Programs::typed_rest))]
+/// What stands after a type and a name: a function's parameters, or the rest of an object.
+#[tactic(auto, unfolding(c_descent::specs::ProgramParser::typed_rest))]
 fn typed_rest(
     alloc: Global,
     cursor: &mut Cursor<'_>,
@@ -427,9 +407,9 @@ fn typed_rest(
     unsigned: bool,
     found: Named,
 ) -> Result<Item, Fault>
-    ensures reads { Reads result cursor.new
+    ensures reads { Matches result cursor.new
         (typed_rest MAX_BINARY_OPERATORS MAX_NESTING private unsigned found cursor.old) }
-    ensures takes { Takes result cursor.old cursor.new }
+    ensures takes { TakesSome result cursor.old cursor.new }
 {
     if cursor.is_at_sign(Sign::LeftParenthesis) {
         let answers = result_of(unsigned);
@@ -439,24 +419,24 @@ fn typed_rest(
     object_rest(cursor, class, unsigned, found)
 }
 
-/// A type, and the function or the object behind it.
-#[tactic(auto, unfolding(crate::specs::Programs::typed))]
+/// A type, and the function or the object after it.
+#[tactic(auto, unfolding(c_descent::specs::ProgramParser::typed))]
 fn typed(alloc: Global, cursor: &mut Cursor<'_>, private: bool) -> Result<Item, Fault>
-    ensures reads { Reads result cursor.new
+    ensures reads { Matches result cursor.new
         (typed MAX_BINARY_OPERATORS MAX_NESTING private cursor.old) }
-    ensures takes { Takes result cursor.old cursor.new }
+    ensures takes { TakesSome result cursor.old cursor.new }
 {
     let unsigned = type_name(cursor)?;
     let found = cursor.name()?;
     typed_rest(alloc, cursor, private, unsigned, found)
 }
 
-/// A function, or an object behind no word of storage or `__private`.
-#[tactic(auto, unfolding(crate::specs::Programs::declared))]
+/// A function, or an object after no word of storage or `__private`.
+#[tactic(auto, unfolding(c_descent::specs::ProgramParser::declared))]
 fn declared(alloc: Global, cursor: &mut Cursor<'_>, private: bool) -> Result<Item, Fault>
-    ensures reads { Reads result cursor.new
+    ensures reads { Matches result cursor.new
         (declared MAX_BINARY_OPERATORS MAX_NESTING private cursor.old) }
-    ensures takes { Takes result cursor.old cursor.new }
+    ensures takes { TakesSome result cursor.old cursor.new }
 {
     if cursor.is_at_word(Word::Void) {
         void_function(alloc, cursor, private)
@@ -465,23 +445,23 @@ fn declared(alloc: Global, cursor: &mut Cursor<'_>, private: bool) -> Result<Ite
     }
 }
 
-/// `__private`, and the function or the object behind it.
-#[tactic(auto, unfolding(crate::specs::Programs::private_item))]
+/// `__private`, and the function or the object after it.
+#[tactic(auto, unfolding(c_descent::specs::ProgramParser::private_item))]
 fn private_item(alloc: Global, cursor: &mut Cursor<'_>) -> Result<Item, Fault>
-    ensures reads { Reads result cursor.new
+    ensures reads { Matches result cursor.new
         (private_item MAX_BINARY_OPERATORS MAX_NESTING cursor.old) }
-    ensures takes { Takes result cursor.old cursor.new }
+    ensures takes { TakesSome result cursor.old cursor.new }
 {
     cursor.word(Word::Private)?;
     declared(alloc, cursor, true)
 }
 
 /// An item.
-#[tactic(auto, unfolding(crate::specs::Programs::item_inside))]
+#[tactic(auto, unfolding(c_descent::specs::ProgramParser::item_inside))]
 fn item_inside(alloc: Global, cursor: &mut Cursor<'_>) -> Result<Item, Fault>
-    ensures reads { Reads result cursor.new
+    ensures reads { Matches result cursor.new
         (item_inside MAX_BINARY_OPERATORS MAX_NESTING cursor.old) }
-    ensures takes { Takes result cursor.old cursor.new }
+    ensures takes { TakesSome result cursor.old cursor.new }
 {
     match heading_at(cursor) {
         Heading::Verified => object(cursor, Word::Verified, Storage::Verified),
@@ -498,7 +478,7 @@ fn item_inside(alloc: Global, cursor: &mut Cursor<'_>) -> Result<Item, Fault>
 
 /// Items up to the end.
 fn items(alloc: Global, cursor: &mut Cursor<'_>) -> Result<Items<Item>, Fault>
-    ensures reads { Reads result cursor.new
+    ensures reads { Matches result cursor.new
         (items MAX_BINARY_OPERATORS MAX_NESTING cursor.old) }
     ensures all { OnOk result (cursor.new ≡ []) }
 {
@@ -511,9 +491,9 @@ fn items(alloc: Global, cursor: &mut Cursor<'_>) -> Result<Items<Item>, Fault>
 }
 
 /// A whole program.
-#[tactic(auto, unfolding(crate::specs::Programs::program))]
+#[tactic(auto, unfolding(c_descent::specs::ProgramParser::program))]
 pub fn program(alloc: Global, cursor: &mut Cursor<'_>) -> Result<Program, Fault>
-    ensures reads { Reads result cursor.new
+    ensures reads { Matches result cursor.new
         (program MAX_BINARY_OPERATORS MAX_NESTING cursor.old) }
     ensures all { OnOk result (cursor.new ≡ []) }
 {

@@ -8,7 +8,6 @@ mod reading;
 #[cfg(test)]
 mod tests;
 
-pub use c_printer::print_program;
 pub use error::SyntaxError;
 pub use laws::one_program;
 pub use reading::read_program;

@@ -1,14 +1,14 @@
 //! The reader of programs.
-ghost use Rattle.std.specs.Prelude.{◌≡◌, ◌≤◌, length, map, IfOk, IfErr};
+ghost use Rattle.std.specs.Prelude.{◌≡◌, ◌≤◌, length, IfOk, IfErr};
+ghost use Rattle.c_token.specs.PlainText.{kinds_of};
 ghost use Rattle.c_grammar.specs.TokenPrograms.{AreProgram};
-ghost use Rattle.c_parser.specs.Toks.{numbered, kinds_of};
-ghost use Rattle.c_reader.specs.Programs.{program};
-ghost use Rattle.c_reader.specs.Reads.{Answers};
+ghost use Rattle.c_descent.specs.DescentLaws.{parsed};
+ghost use Rattle.c_reader.specs.ReaderAnswers.{Answers};
 ghost use Rattle.c_reader.specs.Refusals.{IsRefusedAs};
 
 use crate::error::SyntaxError;
 use crate::item::program;
-use aegis_num::limits::{MAX_BINARY_OPERATORS, MAX_NESTING, MAX_SOURCE_BYTES};
+use aegis_num::limits::MAX_SOURCE_BYTES;
 use c_grammar::Program;
 use c_parser::{Cursor, Fault};
 use c_token::Token;
@@ -17,8 +17,7 @@ use std::alloc::Global;
 /// The answer of the parser on lists.
 fn answer(alloc: Global, tokens: &[Token]) -> Result<Program, SyntaxError>
     requires { length tokens.now ≤ MAX_SOURCE_BYTES }
-    ensures { Answers result (length tokens.now)
-        (program MAX_BINARY_OPERATORS MAX_NESTING (numbered 0 (kinds_of tokens.now))) }
+    ensures { Answers result (length tokens.now) (parsed (kinds_of tokens.now)) }
 {
     let count = tokens.len() as u32;
     let mut cursor = Cursor::new(tokens);
@@ -49,9 +48,9 @@ fn answer(alloc: Global, tokens: &[Token]) -> Result<Program, SyntaxError>
 pub fn read_program(alloc: Global, tokens: &[Token]) -> Result<Program, SyntaxError>
     requires { length tokens.now ≤ MAX_SOURCE_BYTES }
     // What is read is the program of these tokens, within the limits.
-    ensures read { IfOk result (λ p. AreProgram (map (λ t. t.kind) tokens.now) p) }
+    ensures read { IfOk result (λ p. AreProgram (kinds_of tokens.now) p) }
     // What is refused is no program, and the fault stands where it is said to stand.
-    ensures refused { IfErr result (IsRefusedAs (map (λ t. t.kind) tokens.now)) }
+    ensures refused { IfErr result (IsRefusedAs (kinds_of tokens.now)) }
 {
     answer(alloc, tokens)
 }

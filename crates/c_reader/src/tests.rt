@@ -230,7 +230,7 @@ fn refuses_each_production(rt: HostRuntime) -> Result<(), Fail> {
     Ok(())
 }
 
-/// What stands before a construct that opens levels, the construct, what stands behind, and how often it may stand
+/// What stands before a construct that opens levels, the construct, what stands after, and how often it may stand
 /// there, so that the text ends too soon and no more; then the token that is too deep where it stands there once more.
 #[test]
 fn counts_levels_and_operators(rt: HostRuntime) -> Result<(), Fail> {

@@ -2,8 +2,8 @@
 use Rattle.std.proofs.Common.{◌≤◌, ◌+◌, ◌*◌, ◌<◌, length}
 use Rattle.aegis_num.specs.declared.limits.TheConstants.{MAX_BINARY_OPERATORS}
 use Rattle.c_token.specs.declared.signs.Sign.TheVariants.{Comma}
-use Rattle.c_parser.specs.Parser.{is_at_sign, separated, behind_comma}
-use Rattle.c_parser.specs.Expressions.{chained, binary, unary, expression_at}
+use Rattle.c_descent.specs.ListParser.{is_at_sign, separated, after_comma}
+use Rattle.c_descent.specs.ExpressionParser.{chained, binary, unary, expression_at}
 use Rattle.c_parser.proofs.Loops.{Grows, Chains}
 use Rattle.c_parser.proofs.expression.+expressions.Given as goal
 
@@ -31,8 +31,8 @@ decreases-primary l = 64 * l.levels + 12
 abbrev pub decreases-named : goal.decreases-named
 decreases-named l = 64 * l.levels + 11
 
-abbrev pub decreases-behind_name : goal.decreases-behind_name
-decreases-behind_name l = 64 * l.levels + 10
+abbrev pub decreases-after_name : goal.decreases-after_name
+decreases-after_name l = 64 * l.levels + 10
 
 abbrev pub decreases-called : goal.decreases-called
 decreases-called l = 64 * l.levels + 9
@@ -55,8 +55,8 @@ decreases-listed l = 64 * l.levels + 58
 abbrev pub decreases-separated : goal.decreases-separated
 decreases-separated l = 64 * l.levels + 57
 
-abbrev pub decreases-behind_comma : goal.decreases-behind_comma
-decreases-behind_comma l = 64 * l.levels + 56
+abbrev pub decreases-after_comma : goal.decreases-after_comma
+decreases-after_comma l = 64 * l.levels + 56
 
 -- the outcome so far, and no more left than there was
 abbrev pub invariant-chained-each : goal.invariant-chained-each
@@ -74,7 +74,7 @@ decreases-chained-each l = length l.cursor
 abbrev pub invariant-separated-each : goal.invariant-separated-each
 invariant-separated-each l = record {
   grows : Grows (separated (expression_at MAX_BINARY_OPERATORS l.levels) l.fn.cursor)
-      (is_at_sign Comma) (behind_comma (expression_at MAX_BINARY_OPERATORS l.levels)) l.trees l.cursor;
+      (is_at_sign Comma) (after_comma (expression_at MAX_BINARY_OPERATORS l.levels)) l.trees l.cursor;
   fits : length l.cursor < length l.fn.cursor;
 }
 

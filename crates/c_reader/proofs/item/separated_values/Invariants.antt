@@ -1,14 +1,14 @@
 -- the list so far, and no more left than there was
 use Rattle.std.proofs.Common.{◌<◌, length}
 use Rattle.c_token.specs.declared.signs.Sign.TheVariants.{Comma}
-use Rattle.c_parser.specs.Parser.{is_at_sign, separated, behind_comma}
-use Rattle.c_reader.specs.Programs.{value}
+use Rattle.c_descent.specs.ListParser.{is_at_sign, separated, after_comma}
+use Rattle.c_descent.specs.ProgramParser.{value}
 use Rattle.c_parser.proofs.Loops.{Grows}
 use Rattle.c_reader.proofs.item.separated_values.Given as goal
 
 abbrev pub invariant-each : goal.invariant-each
 invariant-each l = record {
-  grows : Grows (separated value l.fn.cursor) (is_at_sign Comma) (behind_comma value) l.values l.cursor;
+  grows : Grows (separated value l.fn.cursor) (is_at_sign Comma) (after_comma value) l.values l.cursor;
   fits : length l.cursor < length l.fn.cursor;
 }
 

@@ -1,5 +1,5 @@
 -- Both programs are what the parser answers.
-use Rattle.c_reader.proofs.Answered.{one_program}
+use Rattle.c_descent.proofs.Answered.{one_program}
 use Rattle.c_reader.proofs.laws.one_program.Goals as goal
 
 pub returns : goal.returns

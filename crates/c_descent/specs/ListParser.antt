@@ -1,4 +1,5 @@
--- How a list of tokens is read from left to right: the answer, and what is left; where reading stops, what is left begins with the faulty token.
+-- Device: how a list of tokens is read from left to right: the answer, and what is left. Where reading stops, what is left
+-- begins with the faulty token.
 use Rattle.std.specs.Prelude.{is_some, ℕ, zero, suc, Bool, true, false, List, [], ◌∷◌, ◌++◌, length, Option, Some, None, if◌then◌else◌}
 use Rattle.c_token.specs.declared.words.Word.{Word}
 use Rattle.c_token.specs.declared.signs.Sign.{Sign}
@@ -7,10 +8,9 @@ use Rattle.c_token.specs.declared.kinds.Kind.{Kind}
 use Rattle.c_token.specs.declared.kinds.Kind.TheVariants as kinds
 use Rattle.c_token.specs.contracts.signs.SignPartialEq.TheImpl as sign_eq
 use Rattle.c_token.specs.contracts.words.WordPartialEq.TheImpl as word_eq
-use Rattle.arrayvec.specs.ArrayString.{ArrayString as Name}
-use Rattle.c_parser.specs.declared.cursor.Named.{Named}
-use Rattle.c_parser.specs.declared.cursor.Numeral.{Numeral}
-use Rattle.c_parser.specs.Toks.{Tok}
+use Rattle.c_descent.specs.declared.parts.Named.{Named}
+use Rattle.c_descent.specs.declared.parts.Numeral.{Numeral}
+use Rattle.c_grammar.specs.BoundedTokens.{Tok}
 
 -- why reading stops: no program goes on so, a level is opened too many, or a list has more turns than were counted (which never happens)
 pub data Reason : Type 0 where
@@ -25,7 +25,7 @@ pub data Outcome (A : Type 0) : Type 0 where
 abbrev pub Parser : Type 0 → Type 0
 Parser A = List Tok → Outcome A
 
--- an outcome, and what is read behind it
+-- an outcome, and what is read after it
 abbrev pub follow : {A B : Type 0} → Outcome A → (A → Parser B) → Outcome B
 follow (done x left) f = f x left
 follow (stop reason left) f = stop reason left
@@ -81,7 +81,7 @@ unfoldable pub word : Word → Parser ℕ
 word x tokens = passed (is_at_word x tokens) tokens
 
 -- the name, where it is one
-abbrev pub name_of : Option Kind → Option Name
+abbrev pub name_of : Option Kind → Option (List ℕ)
 name_of (Some (kinds.Name x)) = Some x
 name_of _ = None
 
@@ -103,7 +103,7 @@ numeral _ s = stop expected s
 unfoldable pub number : Parser Numeral
 number tokens = numeral (first_kind tokens) tokens
 
--- a list before what is read behind it
+-- a list before what is read after it
 abbrev pub prepend : {A : Type 0} → List A → Outcome (List A) → Outcome (List A)
 prepend xs (done ys left) = done (xs ++ ys) left
 prepend xs (stop reason left) = stop reason left
@@ -117,9 +117,9 @@ many (suc n) follows p = λ s. if follows s then follow (p s) (λ x left. prepen
 unfoldable pub all : {A : Type 0} → (List Tok → Bool) → Parser A → Parser (List A)
 all follows p s = many (suc (length s)) follows p s
 
--- a comma, and what stands behind it
-unfoldable pub behind_comma : {A : Type 0} → Parser A → Parser A
-behind_comma p = do
+-- a comma, and what stands after it
+unfoldable pub after_comma : {A : Type 0} → Parser A → Parser A
+after_comma p = do
   _ ← sign signs.Comma
   p
 
@@ -127,10 +127,15 @@ behind_comma p = do
 unfoldable pub separated : {A : Type 0} → Parser A → Parser (List A)
 separated p = do
   first ← p
-  others ← all (is_at_sign signs.Comma) (behind_comma p)
+  others ← all (is_at_sign signs.Comma) (after_comma p)
   gives (first ∷ others)
 
 -- what is read one level deeper, where a level is left; the token that would open it is the next one
 abbrev pub level : {A : Type 0} → ℕ → (ℕ → Parser A) → Parser A
 level zero p = λ s. stop deep s
 level (suc n) p = p n
+
+-- the number of the first token that is left, or this number where none is
+abbrev pub place_or : ℕ → List Tok → ℕ
+place_or count [] = count
+place_or count (t ∷ ts) = t.place

@@ -1,63 +1,33 @@
--- How expressions are read. `limit` is how many operators of two operands one expression may have.
+-- Device: how expressions are read. `limit` is how many operators of two operands one expression may have.
 use Rattle.std.specs.Prelude.{◌≡◌, Result, Ok, Err, ℕ, zero, suc, ◌+◌, ◌==◌, Bool, true, false, List, [], length, Option, Some, None, nat_lt, if◌then◌else◌}
 use Rattle.c_token.specs.declared.words.Word.TheVariants as words
 use Rattle.c_token.specs.declared.signs.Sign.{Sign}
 use Rattle.c_token.specs.declared.signs.Sign.TheVariants as signs
 use Rattle.c_token.specs.declared.kinds.Kind.{Kind}
 use Rattle.c_token.specs.declared.kinds.Kind.TheVariants as kinds
+use Rattle.c_grammar.specs.Precedence.{precedence, loosest, is_unary_operator}
 use Rattle.c_grammar.specs.declared.expr.Expr.{Expr}
 use Rattle.c_grammar.specs.declared.expr.Expr.TheVariants as expr
-use Rattle.c_parser.specs.declared.cursor.Named.{Named}
-use Rattle.c_parser.specs.declared.fault.Fault.{Fault}
-use Rattle.c_parser.specs.declared.fault.Fault.TheVariants.{Deep}
-use Rattle.c_parser.specs.declared.expression.Grown.{Grown}
-use Rattle.c_parser.specs.declared.expression.Bracketed.{Bracketed}
-use Rattle.c_parser.specs.declared.expression.Operand.{Operand}
-use Rattle.c_parser.specs.declared.expression.Operand.TheVariants as operand
-use Rattle.c_parser.specs.Toks.{Tok}
-use Rattle.c_parser.specs.Parser.{deep, exhausted, Outcome, done, stop, Parser, follow, ◌>>=◌, gives, refuses, first_kind, is_at_sign, sign, word, name, number, separated}
-
--- which of the ten ranks an operator of two operands has, from 1 for those that bind tightest; 0 for every other sign
-abbrev pub rank_of : Sign → ℕ
-rank_of signs.Star = 1
-rank_of signs.Slash = 1
-rank_of signs.Percent = 1
-rank_of signs.Plus = 2
-rank_of signs.Minus = 2
-rank_of signs.ShiftLeft = 3
-rank_of signs.ShiftRight = 3
-rank_of signs.LessThan = 4
-rank_of signs.GreaterThan = 4
-rank_of signs.LessOrEqual = 4
-rank_of signs.GreaterOrEqual = 4
-rank_of signs.EqualTo = 5
-rank_of signs.NotEqualTo = 5
-rank_of signs.Ampersand = 6
-rank_of signs.Caret = 7
-rank_of signs.VerticalBar = 8
-rank_of signs.LogicalAnd = 9
-rank_of signs.LogicalOr = 10
-rank_of _ = 0
+use Rattle.c_descent.specs.declared.parts.Named.{Named}
+use Rattle.c_descent.specs.declared.parts.Grown.{Grown}
+use Rattle.c_descent.specs.declared.parts.Bracketed.{Bracketed}
+use Rattle.c_descent.specs.declared.parts.Operand.{Operand}
+use Rattle.c_descent.specs.declared.parts.Operand.TheVariants as operand
+use Rattle.c_grammar.specs.BoundedTokens.{Tok}
+use Rattle.c_descent.specs.ListParser.{deep, exhausted, Outcome, done, stop, Parser, follow, ◌>>=◌, gives, refuses, first_kind, is_at_sign, sign, word, name, number, separated}
 
 -- the sign, where it has this rank
 abbrev pub operator_of : ℕ → Option Kind → Option Sign
-operator_of rank (Some (kinds.Sign op)) = if rank_of op == rank then Some op else None
+operator_of rank (Some (kinds.Sign op)) = if precedence op == rank then Some op else None
 operator_of rank _ = None
 
 -- the first token, where it is an operator of this rank
 unfoldable pub operator_at : ℕ → List Tok → Option Sign
 operator_at rank tokens = operator_of rank (first_kind tokens)
 
--- `-`, `~` and `!`
-abbrev pub is_unary : Sign → Bool
-is_unary signs.Minus = true
-is_unary signs.Tilde = true
-is_unary signs.Exclamation = true
-is_unary _ = false
-
 -- the sign, where it is an operator of one operand
 abbrev pub unary_of : Option Kind → Option Sign
-unary_of (Some (kinds.Sign op)) = if is_unary op then Some op else None
+unary_of (Some (kinds.Sign op)) = if is_unary_operator op then Some op else None
 unary_of _ = None
 
 -- what a token begins that is no operator
@@ -97,7 +67,7 @@ chain limit operand rank zero left = λ s. stop exhausted s
 chain limit operand rank (suc n) left = λ s.
     chain_with (λ op. follow (joined limit operand op left s) (chain limit operand rank n)) left s (operator_at rank s)
 
--- the same; each takes a token
+-- the operators of one rank, however many: each takes a token
 unfoldable pub chained : ℕ → (ℕ → Parser Grown) → ℕ → Grown → Parser Grown
 chained limit operand rank left = λ s. chain limit operand rank (suc (length s)) left s
 
@@ -113,7 +83,7 @@ binary limit unary (suc rank) used = do
 -- an expression
 unfoldable pub expression : ℕ → Parser Expr → Parser Expr
 expression limit unary = do
-  grown ← binary limit unary 10 0
+  grown ← binary limit unary loosest 0
   gives grown.tree
 
 -- `(`, an expression and `)`
@@ -144,21 +114,21 @@ arguments limit inside = opened inside (λ unary. do
   _ ← sign signs.RightParenthesis
   gives trees)
 
--- `[ index ]` behind a name
+-- `[ index ]` after a name
 unfoldable pub indexed : ℕ → Inside → Named → Parser Expr
 indexed limit inside name = do
   found ← subscript limit inside
   gives (expr.Index name.name found.index found.token)
 
--- `( arguments )` behind a name
+-- `( arguments )` after a name
 unfoldable pub called : ℕ → Inside → Named → Parser Expr
 called limit inside name = do
   trees ← arguments limit inside
   gives (expr.Call name.name trees name.token)
 
--- what may stand behind a name: an index, arguments, or nothing
-unfoldable pub behind_name : ℕ → Inside → Named → Parser Expr
-behind_name limit inside name = λ s.
+-- what may stand after a name: an index, arguments, or nothing
+unfoldable pub after_name : ℕ → Inside → Named → Parser Expr
+after_name limit inside name = λ s.
     if is_at_sign signs.LeftBracket s then indexed limit inside name s
     else (if is_at_sign signs.LeftParenthesis s then called limit inside name s
     else done (expr.Name name.name name.token) s)
@@ -167,7 +137,7 @@ behind_name limit inside name = λ s.
 unfoldable pub named : ℕ → Inside → Parser Expr
 named limit inside = do
   found ← name
-  behind_name limit inside found
+  after_name limit inside found
 
 -- a number
 unfoldable pub literal : Parser Expr
@@ -217,16 +187,6 @@ inside limit (suc n) = Some (unary_in limit (inside limit n))
 -- a unary expression, where so many levels are left
 unfoldable pub unary : ℕ → ℕ → Parser Expr
 unary limit levels = unary_in limit (inside limit levels)
-
--- Whether a level is left, and how many are then.
-abbrev pub Opens : ℕ → Result ℕ Fault → Type 0
-Opens levels (Ok left) = levels ≡ suc left
-Opens levels (Err fault) = (levels ≡ 0) × (fault ≡ Deep)
-
--- The same of the reader of unary expressions one level deeper.
-abbrev pub OpensInside : ℕ → ℕ → Result ℕ Fault → Type 0
-OpensInside limit levels (Ok left) = inside limit levels ≡ Some (unary limit left)
-OpensInside limit levels (Err fault) = inside limit levels ≡ None
 
 -- an expression, where so many levels are left
 abbrev pub expression_at : ℕ → ℕ → Parser Expr

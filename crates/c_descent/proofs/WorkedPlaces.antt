@@ -1,17 +1,16 @@
 -- Where worked texts stop being programs, and where they nest too deep.
 use Rattle.std.proofs.Common.{◌≡◌, ℕ, zero, suc, true, false, List, [], ◌∷◌, ◌++◌, refl}
-use Rattle.arrayvec.specs.ArrayString.{ArrayString}
 use Rattle.c_token.specs.declared.kinds.Kind.{Kind}
 use Rattle.c_token.specs.declared.kinds.Kind.TheVariants.{Name, Number, Word, Sign}
 use Rattle.c_token.specs.declared.words.Word.TheVariants as w
 use Rattle.c_token.specs.declared.signs.Sign.TheVariants as s
 use Rattle.c_grammar.specs.BoundedTokens.{Tok, numbered}
 use Rattle.c_grammar.specs.TokenPrograms.{IsExpectedAt, IsDeepAt, IsShallowBefore}
-use Rattle.c_parser.specs.Parser.{expected, deep, done, stop, Outcome, sign, word, name, number, many, all, behind_comma, separated, is_at_sign, is_at_word}
-use Rattle.c_parser.specs.Expressions.{operator_at, joined, chain, chained, binary, expression, paren, subscript, listed, arguments, indexed, called, behind_name, named, literal, input, primary, signed, unary_in, inside, unary}
-use Rattle.c_parser.specs.Statements as st
-use Rattle.c_reader.specs.Programs as p
-use Rattle.c_reader.proofs.Answered.{refused_expected, refused_deep}
+use Rattle.c_descent.specs.ListParser.{expected, deep, done, stop, Outcome, sign, word, name, number, many, all, after_comma, separated, is_at_sign, is_at_word}
+use Rattle.c_descent.specs.ExpressionParser.{operator_at, joined, chain, chained, binary, expression, paren, subscript, listed, arguments, indexed, called, after_name, named, literal, input, primary, signed, unary_in, inside, unary}
+use Rattle.c_descent.specs.StatementParser as st
+use Rattle.c_descent.specs.ProgramParser as p
+use Rattle.c_descent.proofs.Answered.{refused_expected, refused_deep}
 
 -- as many signs `(`
 opens : ℕ → List Kind
@@ -19,19 +18,19 @@ opens zero = []
 opens (suc n) = Sign s.LeftParenthesis ∷ opens n
 
 -- `int main(void){release(72)return 0;}`: the sign `;` is missing before token 10
-missing : (main : ArrayString) → List Kind
+missing : (main : List ℕ) → List Kind
 missing main = Word w.Int ∷ Name main ∷ Sign s.LeftParenthesis ∷ Word w.Void ∷ Sign s.RightParenthesis ∷ Sign s.LeftBrace
     ∷ Word w.Release ∷ Sign s.LeftParenthesis ∷ Number 72 false ∷ Sign s.RightParenthesis ∷ Word w.Return ∷ Number 0 false ∷ Sign s.Semicolon ∷ Sign s.RightBrace ∷ []
 
-missing_at : (main : ArrayString) → IsExpectedAt (missing main) 10 × IsShallowBefore (missing main) 10
+missing_at : (main : List ℕ) → IsExpectedAt (missing main) 10 × IsShallowBefore (missing main) 10
 unfolding missing p.program p.items p.item_inside p.heading_at p.typed p.typed_rest p.function_rest p.parameters p.listed p.void_list st.type_name st.int_type st.braced st.entries st.entry st.goes_on st.statement st.statement_inside st.start_at st.plain_at st.ended st.plain_inside st.release st.condition many all sign word name number is_at_sign is_at_word operator_at chain chained binary expression literal primary unary_in inside unary
 missing_at main = refused_expected (missing main) (numbered 10 (Word w.Return ∷ Number 0 false ∷ Sign s.Semicolon ∷ Sign s.RightBrace ∷ [])) refl
 
--- 64 signs `(` behind the one of `release`: the last of them opens one level too many
-deep_text : (main : ArrayString) → List Kind
+-- 64 signs `(` after the one of `release`: the last of them opens one level too many
+deep_text : (main : List ℕ) → List Kind
 deep_text main = Word w.Int ∷ Name main ∷ Sign s.LeftParenthesis ∷ Word w.Void ∷ Sign s.RightParenthesis ∷ Sign s.LeftBrace
     ∷ Word w.Release ∷ Sign s.LeftParenthesis ∷ opens 64
 
-deep_at_71 : (main : ArrayString) → IsDeepAt (deep_text main) 71
+deep_at_71 : (main : List ℕ) → IsDeepAt (deep_text main) 71
 unfolding opens deep_text p.program p.items p.item_inside p.heading_at p.typed p.typed_rest p.function_rest p.parameters p.listed p.void_list st.type_name st.int_type st.braced st.entries st.entry st.goes_on st.statement st.statement_inside st.start_at st.plain_at st.ended st.plain_inside st.release st.condition many all sign word name number is_at_sign is_at_word operator_at chain chained binary expression literal primary unary_in inside unary paren
 deep_at_71 main = refused_deep (deep_text main) (numbered 71 (Sign s.LeftParenthesis ∷ [])) refl

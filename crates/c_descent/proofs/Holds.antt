@@ -8,12 +8,11 @@ use Rattle.c_token.specs.declared.kinds.Kind.{Kind}
 use Rattle.c_token.specs.declared.kinds.Kind.TheVariants as kinds
 use Rattle.c_token.specs.contracts.signs.SignPartialEq.TheImpl as sign_eq
 use Rattle.c_token.specs.contracts.words.WordPartialEq.TheImpl as word_eq
-use Rattle.arrayvec.specs.ArrayString.{ArrayString}
 use Rattle.c_grammar.specs.BoundedTokens as g
 use Rattle.c_grammar.specs.BoundedTokens.{Tok, Spot, Bounded, tok_of, bounded, bounded_all}
-use Rattle.c_parser.specs.declared.cursor.Named.{Named}
-use Rattle.c_parser.specs.declared.cursor.Numeral.{Numeral}
-use Rattle.c_parser.specs.Parser.{Reason, expected, deep, exhausted, Outcome, done, stop, Parser, follow, ◌>>=◌, gives, refuses, first_kind, is_some_sign, is_some_word, is_at_sign, is_at_word, passed, sign, word, named, name, numeral, number}
+use Rattle.c_descent.specs.declared.parts.Named.{Named}
+use Rattle.c_descent.specs.declared.parts.Numeral.{Numeral}
+use Rattle.c_descent.specs.ListParser.{Reason, expected, deep, exhausted, Outcome, done, stop, Parser, follow, ◌>>=◌, gives, refuses, first_kind, is_some_sign, is_some_word, is_at_sign, is_at_word, passed, sign, word, named, name, numeral, number}
 
 -- what tokens may be read as
 abbrev pub Rel : Type 0 → Type (0 + 1)
@@ -98,11 +97,11 @@ module _ (limit : ℕ) {A : Type 0} where
   mono f (reaches h) = reaches record { used = h.used; split = h.split; means = f _ _ h.means; again = h.again }
   mono f (stops h) = stops record { used = h.used; split = h.split; more = h.more; tree = h.tree; means = f _ _ h.means; opens = h.opens; again = h.again }
 
-  -- what is read behind an answer
+  -- what is read after an answer
   module _ {B : Type 0} {p : Parser A} (f : A → Parser B) {R : List Bounded → A → Type 0} {S : A → List Bounded → B → Type 0} where
-    pub behind : {s rest : List Tok} {y : A} {o : Outcome B} → Reaches limit p R s y rest → Holds limit (f y) (S y) rest o
+    pub then_reads : {s rest : List Tok} {y : A} {o : Outcome B} → Reaches limit p R s y rest → Holds limit (f y) (S y) rest o
         → Holds limit (p >>= f) (Seq R S) s o
-    behind {rest} h (reaches {x} {rest = left} k) = reaches record {
+    then_reads {rest} h (reaches {x} {rest = left} k) = reaches record {
       used = h.used ++ k.used;
       split = h.split ∙ ap (λ r. h.used ++ r) k.split ∙ sym (append_assoc h.used k.used left);
       means = subst (λ ts. Seq R S ts x) (sym (bounded-append limit h.used k.used))
@@ -110,7 +109,7 @@ module _ (limit : ℕ) {A : Type 0} where
       again = λ other a. ap (λ r. follow (p r) f) (append_assoc h.used k.used other)
           ∙ ap (λ o. follow o f) (h.again (k.used ++ other) (alike_split rest k.used left other k.split a)) ∙ k.again other a;
     }
-    behind {rest} h (stops {rest = left} k) = stops record {
+    then_reads {rest} h (stops {rest = left} k) = stops record {
       used = h.used ++ k.used;
       split = h.split ∙ ap (λ r. h.used ++ r) k.split ∙ sym (append_assoc h.used k.used left);
       more = k.more;
@@ -138,7 +137,7 @@ module _ (limit : ℕ) {A : Type 0} where
 
     pub bind_at : {s : List Tok} {o : Outcome A} → ((y : A) → Full (S y)) → ((y : A) → Always limit (f y) (S y)) → Holds limit p R s o
         → Holds limit (p >>= f) (Seq R S) s (follow o f)
-    bind_at full k (reaches {x = y} {rest} h) = behind h (k y rest)
+    bind_at full k (reaches {x = y} {rest} h) = then_reads h (k y rest)
     bind_at full k (stops h) = before full h
 
     pub bind : ((y : A) → Full (S y)) → Always limit p R → ((y : A) → Always limit (f y) (S y)) → Always limit (p >>= f) (Seq R S)
@@ -148,7 +147,7 @@ module _ (limit : ℕ) {A : Type 0} where
     pub bind_known : (s : List Tok) (o : Outcome A) → p s ≡ o → ((y : A) → Full (S y)) → Holds limit p R s o
         → ((y : A) (rest : List Tok) → p s ≡ done y rest → Holds limit (f y) (S y) rest (f y rest))
         → Holds limit (p >>= f) (Seq R S) s (follow o f)
-    bind_known s (done y rest) e full (reaches h) k = behind h (k y rest e)
+    bind_known s (done y rest) e full (reaches h) k = then_reads h (k y rest e)
     bind_known s (stop reason rest) e full (stops h) k = before full h
 
   -- a function of the answer
@@ -265,7 +264,7 @@ pub data IsWord (x : Word) : List Bounded → ℕ → Type 0 where
   is_word : (at : Spot) → IsWord x (g.word at x ∷ []) at.place
 
 pub data IsName : List Bounded → Named → Type 0 where
-  is_name : (at : Spot) (text : ArrayString) → IsName (g.name at text ∷ []) (record { name = text; token = at.place })
+  is_name : (at : Spot) (text : List ℕ) → IsName (g.name at text ∷ []) (record { name = text; token = at.place })
 
 pub data IsNumber : List Bounded → Numeral → Type 0 where
   is_number : (at : Spot) (value : ℕ) (unsigned : Bool)
@@ -352,8 +351,8 @@ number_each limit t (kinds.Name x) e = inl (λ ts. refl)
 number_each limit t (kinds.Word x) e = inl (λ ts. refl)
 number_each limit t (kinds.Sign x) e = inl (λ ts. refl)
 
-abbrev pub no_text : ArrayString
-no_text = record { bytes = []; spare = [] }
+abbrev pub no_text : List ℕ
+no_text = []
 
 pub naming : (limit : ℕ) → Always limit name IsName
 unfolding name
@@ -422,7 +421,7 @@ pub data OpensWord (l : ℕ) (x : Word) : List Bounded → ℕ → Type 0 where
   opens_word : (at : Spot) → l < at.bound → OpensWord l x (g.word at x ∷ []) at.place
 
 pub data OpensName (l : ℕ) : List Bounded → Named → Type 0 where
-  opens_name : (at : Spot) (text : ArrayString) → l < at.bound → OpensName l (g.name at text ∷ []) (record { name = text; token = at.place })
+  opens_name : (at : Spot) (text : List ℕ) → l < at.bound → OpensName l (g.name at text ∷ []) (record { name = text; token = at.place })
 
 -- a spot that lets one level more than these open
 abbrev pub above : ℕ → Spot

@@ -3,10 +3,10 @@ use Rattle.std.proofs.Common.{◌≡◌, ℕ, Bool, true, false, List, [], ◌�
 use Rattle.c_token.specs.declared.signs.Sign.TheVariants as signs
 use Rattle.c_grammar.specs.BoundedTokens as g
 use Rattle.c_grammar.specs.BoundedTokens.{Tok, Spot, Bounded, tok_of, toks_of}
-use Rattle.c_parser.specs.Parser.{done, Parser, follow, is_at_sign, sign, all, behind_comma, separated}
-use Rattle.c_parser.proofs.Holds.{Alike, Always, Full, Takes, Seq, seq, Mapped, mapped, Many, none_left, one_more, is_sign}
-use Rattle.c_parser.proofs.Lists.{Comma, all_turn, turn, behind_one, head_sign, comma_takes, after_comma}
-use Rattle.c_parser.proofs.Comes.{To, arrives, Goes, step, map_to, put-append, sign_goes}
+use Rattle.c_descent.specs.ListParser.{done, Parser, follow, is_at_sign, sign, all, after_comma, separated}
+use Rattle.c_descent.proofs.Holds.{Alike, Always, Full, Takes, Seq, seq, Mapped, mapped, Many, none_left, one_more, is_sign}
+use Rattle.c_descent.proofs.Lists.{Comma, all_turn, turn, after_one, head_sign, comma_takes, comma_always}
+use Rattle.c_descent.proofs.Comes.{To, arrives, Goes, step, map_to, put-append, sign_goes}
 
 module _ (limit : ℕ) {A : Type 0} (follows : List Tok → Bool) {p : Parser A} {R : List Bounded → A → Type 0}
     (head : (s t : List Tok) → Alike s t → follows s ≡ follows t) (always : Always limit p R) (takes : Takes R)
@@ -18,21 +18,21 @@ module _ (limit : ℕ) {A : Type 0} (follows : List Tok → Bool) {p : Parser A}
   all_next _ _ rest none_left n = n
   all_next _ _ rest (one_more {x} ts us r m) n = subst (λ s. Next s) (sym (put-append ts us rest)) (next ts x (toks_of us ++ rest) r)
 
-  here : (s : List Tok) → follows s ≡ true → all follows p s ≡ follow (p s) (behind_one limit follows head always takes)
+  here : (s : List Tok) → follows s ≡ true → all follows p s ≡ follow (p s) (after_one limit follows head always takes)
   unfolding turn
-  here s e = all_turn limit follows head always takes s ∙ ap (λ b. turn limit follows head always takes b (behind_one limit follows head always takes) s) e
+  here s e = all_turn limit follows head always takes s ∙ ap (λ b. turn limit follows head always takes b (after_one limit follows head always takes) s) e
 
   nowhere : (s : List Tok) → follows s ≡ false → all follows p s ≡ done [] s
   unfolding turn
-  nowhere s e = all_turn limit follows head always takes s ∙ ap (λ b. turn limit follows head always takes b (behind_one limit follows head always takes) s) e
+  nowhere s e = all_turn limit follows head always takes s ∙ ap (λ b. turn limit follows head always takes b (after_one limit follows head always takes) s) e
 
   pub all_reads : (ts : List Bounded) (xs : List A) (rest : List Tok) → Many R ts xs → Next rest → follows rest ≡ false → Goes limit (all follows p) ts rest xs
-  unfolding behind_one
+  unfolding after_one
   all_reads _ _ rest none_left n e = subst (λ o. To limit [] rest (done [] rest) o) (sym (nowhere rest e)) arrives
   all_reads _ _ rest (one_more {x} {xs} ts us r m) n e =
       subst (λ o. To limit (ts ++ us) rest (done (x ∷ xs) rest) o) (sym (here (toks_of (ts ++ us) ++ rest)
       (ap follows (put-append ts us rest) ∙ begins ts x (toks_of us ++ rest) r)))
-      (step limit p (behind_one limit follows head always takes) ts us (reads ts x (toks_of us ++ rest) r (all_next us xs rest m n))
+      (step limit p (after_one limit follows head always takes) ts us (reads ts x (toks_of us ++ rest) r (all_next us xs rest m n))
       (map_to limit (λ xs. x ∷ xs) (all_reads us xs rest m n e)))
 
 -- with commas between them
@@ -47,8 +47,8 @@ module _ (limit : ℕ) {A : Type 0} {p : Parser A} {R : List Bounded → A → T
   comma_next : (ts : List Bounded) (x : A) (s : List Tok) → Comma R ts x → Next (toks_of ts ++ s)
   comma_next _ x s (seq _ us (is_sign at) r) = comma at (toks_of us ++ s)
 
-  comma_reads : (ts : List Bounded) (x : A) (s : List Tok) → Comma R ts x → Next s → Goes limit (behind_comma p) ts s x
-  unfolding behind_comma
+  comma_reads : (ts : List Bounded) (x : A) (s : List Tok) → Comma R ts x → Next s → Goes limit (after_comma p) ts s x
+  unfolding after_comma
   comma_reads _ x s (seq _ us (is_sign at) r) n = step limit (sign signs.Comma) (λ _. p) (g.sign at signs.Comma ∷ []) us
       (sign_goes limit signs.Comma at (toks_of us ++ s)) (reads us x s r n)
 
@@ -63,5 +63,5 @@ module _ (limit : ℕ) {A : Type 0} {p : Parser A} {R : List Bounded → A → T
       subst (λ zs. To limit (ts ++ us) rest (done zs rest) (separated p (toks_of (ts ++ us) ++ rest))) (sym q)
       (step limit p _ ts us (reads ts x (toks_of us ++ rest) r (after_first us xs rest m n))
       (map_to limit (λ xs. x ∷ xs)
-      (all_reads limit (is_at_sign signs.Comma) (head_sign signs.Comma) (after_comma limit always full) (comma_takes limit always full)
+      (all_reads limit (is_at_sign signs.Comma) (head_sign signs.Comma) (comma_always limit always full) (comma_takes limit always full)
       Next comma_begins comma_next comma_reads us xs rest m n e)))

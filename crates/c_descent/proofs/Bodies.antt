@@ -11,18 +11,18 @@ use Rattle.c_grammar.specs.BoundedTokens as g
 use Rattle.c_grammar.specs.BoundedTokens.{Tok, Spot, Bounded, tok_of, bounded, bounded_all}
 use Rattle.c_grammar.specs.StatementGrammar as gr
 use Rattle.c_grammar.specs.StatementGrammar.{IsType, Local, Simple, Maybe, First, Step, Statement, Body}
-use Rattle.c_parser.specs.declared.statement.Start.{Start}
-use Rattle.c_parser.specs.declared.statement.Start.TheVariants as start
-use Rattle.c_parser.specs.declared.statement.LoopHead.{LoopHead}
-use Rattle.c_parser.specs.declared.statement.Braces.{Braces}
-use Rattle.c_parser.specs.Parser.{Reason, expected, deep, Outcome, done, stop, Parser, follow, ◌>>=◌, gives, refuses, first_kind, is_at_word, sign, word, level}
-use Rattle.c_parser.specs.Statements as p
-use Rattle.c_parser.specs.Statements.{start_of, start_at, plain_of, plain_at, begins_simple, begins_statement}
-use Rattle.c_parser.proofs.Holds.{Seq, seq, Mapped, mapped, Alike, Holds, reaches, stops, Reaches, HoldsAt, Always, Full, mono, bind, behind, before, bind_at, mapping, mapped_at, by_first, dispatch, head_kind, Nothing, nothing, giving, free, no_text, full_seq, full_mapped, full_sign, Takes, Many, none_left, one_more, OpensSign, opens_sign, OpensWord, opens_word, above, above_at, above_ok, opening_sign, opening_word, deep_first, IsSign, is_sign, signing, IsWord, is_word, wording, refusing}
-use Rattle.c_parser.proofs.Lists.{head_sign, head_word, listing}
-use Rattle.c_parser.proofs.Chains.{zero_expression}
-use Rattle.c_parser.proofs.Expressing.{if_sign}
-use Rattle.c_parser.proofs.Stating.{if_word, maybe_at, Condition, condition, condition_at, full_condition, local_made, local_inside_at, simple_inside_at, plain_ended_at, empty_at}
+use Rattle.c_descent.specs.declared.parts.Start.{Start}
+use Rattle.c_descent.specs.declared.parts.Start.TheVariants as start
+use Rattle.c_descent.specs.declared.parts.LoopHead.{LoopHead}
+use Rattle.c_descent.specs.declared.parts.Braces.{Braces}
+use Rattle.c_descent.specs.ListParser.{Reason, expected, deep, Outcome, done, stop, Parser, follow, ◌>>=◌, gives, refuses, first_kind, is_at_word, sign, word, level}
+use Rattle.c_descent.specs.StatementParser as p
+use Rattle.c_descent.specs.StatementParser.{start_of, start_at, plain_of, plain_at, begins_simple, begins_statement}
+use Rattle.c_descent.proofs.Holds.{Seq, seq, Mapped, mapped, Alike, Holds, reaches, stops, Reaches, HoldsAt, Always, Full, mono, bind, then_reads, before, bind_at, mapping, mapped_at, by_first, dispatch, head_kind, Nothing, nothing, giving, free, no_text, full_seq, full_mapped, full_sign, Takes, Many, none_left, one_more, OpensSign, opens_sign, OpensWord, opens_word, above, above_at, above_ok, opening_sign, opening_word, deep_first, IsSign, is_sign, signing, IsWord, is_word, wording, refusing}
+use Rattle.c_descent.proofs.Lists.{head_sign, head_word, listing}
+use Rattle.c_descent.proofs.Chains.{zero_expression}
+use Rattle.c_descent.proofs.Expressing.{if_sign}
+use Rattle.c_descent.proofs.Stating.{if_word, maybe_at, Condition, condition, condition_at, full_condition, local_made, local_inside_at, simple_inside_at, plain_ended_at, empty_at}
 
 pub deep_on : (limit : ℕ) {A : Type 0} {R : List Bounded → A → Type 0} (s : List Tok) (bound : ℕ) (ok : Option Kind → Bool) → ok None ≡ false → ok (first_kind s) ≡ true
     → ((k : Kind) → ok (Some k) ≡ true → (place : ℕ) → (more : List Bounded) × (x : A) × R (record { spot = record { place = place; bound = bound }; kind = k } ∷ more) x)
@@ -233,7 +233,7 @@ module _ (limit : ℕ) where
   bind_end p f {R} {S} s x rest e h k = go (done_follow (p s) f x rest e)
     where
       go : (y : _) × (left : List Tok) × (p s ≡ done y left) × (f y left ≡ done x rest) → Holds limit (p >>= f) (Seq R S) s (done x rest)
-      go (y, left, a, b) = behind limit f (reached (subst (λ o. Holds limit p R s o) a h)) (k y left a b)
+      go (y, left, a, b) = then_reads limit f (reached (subst (λ o. Holds limit p R s o) a h)) (k y left a b)
 
   pub mapped_end : {A B : Type 0} (p : Parser A) (f : A → B) {R : List Bounded → A → Type 0} (s : List Tok) (x : B) (rest : List Tok)
       → follow (p s) (λ y. gives (f y)) ≡ done x rest → ((y : A) → p s ≡ done y rest → Holds limit p R s (done y rest))
@@ -323,7 +323,7 @@ module _ (limit : ℕ) where
         (λ place s1 _ q1. bind_end _ _ s1 x rest q1 (head_at limit n (suc l) e s1)
         (λ parts s2 _ q2. mapped_end S _ s2 x rest q2 (λ y r. shut s2 y rest r a))))
 
-    -- what stands behind a condition: a statement, and maybe another behind `else`
+    -- what stands after a condition: a statement, and maybe another after `else`
     data Tail (place : ℕ) (test : Expr) : List Bounded → Stmt → Bool → Type 0 where
       no_else : {ts : List Bounded} {body : Stmt} {takes : Bool} → Statement (suc l) ts body takes → Tail place test ts (stmt.If test body None place) true
       with_else : {ts us : List Bounded} {body other : Stmt} {takes : Bool} (at : Spot) → Statement (suc l) ts body false → Statement (suc l) us other takes
@@ -335,8 +335,8 @@ module _ (limit : ℕ) where
     other_of : ℕ → Expr → Stmt → Option Stmt → Stmt
     other_of place test body other = stmt.If test body other place
 
-    behind_body : ℕ → Expr → Stmt → Parser Stmt
-    behind_body place test body = p.optional_else S >>= (λ other. gives (other_of place test body other))
+    after_body : ℕ → Expr → Stmt → Parser Stmt
+    after_body place test body = p.optional_else S >>= (λ other. gives (other_of place test body other))
 
     -- no `else` follows
     lone_made : (place : ℕ) (test : Expr) (ts : List Bounded) (x : Stmt)
@@ -380,20 +380,20 @@ module _ (limit : ℕ) where
     lone_at s a = if_word limit words.Else _ _ s (λ q. absurd (true≢false (sym q ∙ a))) (λ q. giving limit None s)
 
     tail_with : (place : ℕ) (test : Expr) (s rest : List Tok) (body : Stmt) → S s ≡ done body rest → Holds limit S (St (suc l)) s (done body rest) → (b : Bool) → is_at_word words.Else rest ≡ b
-        → Holds limit (S >>= behind_body place test) (AnyTail place test) s (behind_body place test body rest)
-    unfolding behind_body
+        → Holds limit (S >>= after_body place test) (AnyTail place test) s (after_body place test body rest)
+    unfolding after_body
     tail_with place test s rest body q h true a = mono limit (pick_made place test)
-        (behind limit _ (reached (shut s body rest q a)) (mapped_at limit (other_of place test body) (else_at rest a)))
+        (then_reads limit _ (reached (shut s body rest q a)) (mapped_at limit (other_of place test body) (else_at rest a)))
     tail_with place test s rest body q h false a = mono limit (lone_made place test)
-        (behind limit _ (reached h) (mapped_at limit (other_of place test body) (lone_at rest a)))
+        (then_reads limit _ (reached h) (mapped_at limit (other_of place test body) (lone_at rest a)))
 
     tail_go : (place : ℕ) (test : Expr) (s : List Tok) (o : Outcome Stmt) → S s ≡ o → Holds limit S (St (suc l)) s o
-        → Holds limit (S >>= behind_body place test) (AnyTail place test) s (follow o (behind_body place test))
+        → Holds limit (S >>= after_body place test) (AnyTail place test) s (follow o (after_body place test))
     tail_go place test s (done body rest) q h = tail_with place test s rest body q h (is_at_word words.Else rest) refl
     tail_go place test s (stop reason rest) q (stops h) = mono limit (lone_made place test)
-        (before limit (behind_body place test) (λ body. ([], _, mapped None nothing refl)) h)
+        (before limit (after_body place test) (λ body. ([], _, mapped None nothing refl)) h)
 
-    tail_at : (place : ℕ) (test : Expr) → Always limit (S >>= behind_body place test) (AnyTail place test)
+    tail_at : (place : ℕ) (test : Expr) → Always limit (S >>= after_body place test) (AnyTail place test)
     tail_at place test s = tail_go place test s (S s) refl (always s)
 
     full_tail : (place : ℕ) (test : Expr) → Full (AnyTail place test)
@@ -415,25 +415,25 @@ module _ (limit : ℕ) where
         (bind_end (word words.Else) _ s x rest (ap (λ t. cond t (else_read s) (done None s)) (sym a) ∙ q) (wording limit words.Else s)
         (λ _ s1 _ q1. mapped_end S Some s1 x rest q1 (λ y r. shut s1 y rest r b))))
 
-    lone_end : (place : ℕ) (test : Expr) (body x : Stmt) (s rest : List Tok) → is_at_word words.Else s ≡ false → behind_body place test body s ≡ done x rest → s ≡ rest
-    unfolding behind_body p.optional_else else_read
+    lone_end : (place : ℕ) (test : Expr) (body x : Stmt) (s rest : List Tok) → is_at_word words.Else s ≡ false → after_body place test body s ≡ done x rest → s ≡ rest
+    unfolding after_body p.optional_else else_read
     lone_end place test body x s rest a q = same_rest (other_of place test body None) x s rest
         (ap (λ t. follow (cond t (else_read s) (done None s)) (λ other. gives (other_of place test body other))) (sym a) ∙ q)
 
     tail_end : (place : ℕ) (test : Expr) (s : List Tok) (x : Stmt) (rest : List Tok) → AtElse rest → (body : Stmt) (left : List Tok) → S s ≡ done body left
-        → behind_body place test body left ≡ done x rest → (b : Bool) → is_at_word words.Else left ≡ b
-        → Holds limit (S >>= behind_body place test) (λ ts x. Tail place test ts x false) s (done x rest)
-    unfolding behind_body
+        → after_body place test body left ≡ done x rest → (b : Bool) → is_at_word words.Else left ≡ b
+        → Holds limit (S >>= after_body place test) (λ ts x. Tail place test ts x false) s (done x rest)
+    unfolding after_body
     tail_end place test s x rest a body left q r true t = mono limit (else_made false place test)
-        (behind limit _ (reached (shut s body left q t)) (mapped_end (p.optional_else S) (other_of place test body) left x rest r (λ other u. other_end left other rest u t a)))
+        (then_reads limit _ (reached (shut s body left q t)) (mapped_end (p.optional_else S) (other_of place test body) left x rest r (λ other u. other_end left other rest u t a)))
     tail_end place test s x rest a body left q r false t = absurd (true≢false (sym a ∙ ap (is_at_word words.Else) (sym (lone_end place test body x left rest t r)) ∙ t))
 
-    tail_shut : (place : ℕ) (test : Expr) (s : List Tok) (x : Stmt) (rest : List Tok) → follow (S s) (behind_body place test) ≡ done x rest → AtElse rest
-        → Holds limit (S >>= behind_body place test) (λ ts x. Tail place test ts x false) s (done x rest)
-    tail_shut place test s x rest q a = go (done_follow (S s) (behind_body place test) x rest q)
+    tail_shut : (place : ℕ) (test : Expr) (s : List Tok) (x : Stmt) (rest : List Tok) → follow (S s) (after_body place test) ≡ done x rest → AtElse rest
+        → Holds limit (S >>= after_body place test) (λ ts x. Tail place test ts x false) s (done x rest)
+    tail_shut place test s x rest q a = go (done_follow (S s) (after_body place test) x rest q)
       where
-        go : (y : Stmt) × (left : List Tok) × (S s ≡ done y left) × (behind_body place test y left ≡ done x rest)
-            → Holds limit (S >>= behind_body place test) (λ ts x. Tail place test ts x false) s (done x rest)
+        go : (y : Stmt) × (left : List Tok) × (S s ≡ done y left) × (after_body place test y left ≡ done x rest)
+            → Holds limit (S >>= after_body place test) (λ ts x. Tail place test ts x false) s (done x rest)
         go (body, left, u, v) = tail_end place test s x rest a body left u v (is_at_word words.Else left) refl
 
     If : (ℕ → Expr → List Bounded → Stmt → Type 0) → List Bounded → Stmt → Type 0
@@ -457,12 +457,12 @@ module _ (limit : ℕ) where
     if_st _ x (seq _ _ (opens_word at h) (seq {y = test} ts us c t)) = (t.0, if_one t.0 at h ts test c us x t.1)
 
     if_at : Always limit (p.conditional limit n S) (St l)
-    unfolding p.conditional If behind_body other_of
+    unfolding p.conditional If after_body other_of
     if_at s = mono limit if_st (bind limit _ (λ place. full_seq (full_condition limit n (suc l) e) (λ test. full_tail place test)) (opening_word limit l words.If under)
         (λ place. bind limit _ (λ test. full_tail place test) (condition_at limit n (suc l) e) (λ test. tail_at place test)) s)
 
     if_shut : Shut l (p.conditional limit n S)
-    unfolding p.conditional If behind_body other_of
+    unfolding p.conditional If after_body other_of
     if_shut s x rest q a = mono limit (if_made false) (bind_end _ _ s x rest q (opening_word limit l words.If under s)
         (λ place s1 _ q1. bind_end _ _ s1 x rest q1 (condition_at limit n (suc l) e s1) (λ test s2 _ q2. tail_shut place test s2 x rest q2 a)))
 

@@ -1,4 +1,4 @@
--- How locals and statements are read. `limit` is how many operators of two operands one expression may have,
+-- Device: how locals and statements are read. `limit` is how many operators of two operands one expression may have,
 -- and `levels` how many levels are left.
 use Rattle.std.specs.Prelude.{ℕ, zero, suc, Bool, true, false, not, List, Option, Some, None, if◌then◌else◌}
 use Rattle.c_token.specs.declared.words.Word.TheVariants as words
@@ -8,16 +8,16 @@ use Rattle.c_token.specs.declared.kinds.Kind.TheVariants as kinds
 use Rattle.c_grammar.specs.declared.expr.Expr.{Expr}
 use Rattle.c_grammar.specs.declared.stmt.Stmt.{Stmt}
 use Rattle.c_grammar.specs.declared.stmt.Stmt.TheVariants as stmt
-use Rattle.c_parser.specs.declared.cursor.Named.{Named}
-use Rattle.c_parser.specs.declared.statement.Start.{Start}
-use Rattle.c_parser.specs.declared.statement.Start.TheVariants as start
-use Rattle.c_parser.specs.declared.statement.Plain.{Plain}
-use Rattle.c_parser.specs.declared.statement.Plain.TheVariants as plain
-use Rattle.c_parser.specs.declared.statement.LoopHead.{LoopHead}
-use Rattle.c_parser.specs.declared.statement.Braces.{Braces}
-use Rattle.c_parser.specs.Toks.{Tok}
-use Rattle.c_parser.specs.Parser.{expected, deep, done, stop, Parser, follow, ◌>>=◌, gives, refuses, first_kind, is_at_sign, is_at_word, sign, word, name, all, level}
-use Rattle.c_parser.specs.Expressions.{expression_at, subscript, arguments, inside}
+use Rattle.c_descent.specs.declared.parts.Named.{Named}
+use Rattle.c_descent.specs.declared.parts.Start.{Start}
+use Rattle.c_descent.specs.declared.parts.Start.TheVariants as start
+use Rattle.c_descent.specs.declared.parts.Plain.{Plain}
+use Rattle.c_descent.specs.declared.parts.Plain.TheVariants as plain
+use Rattle.c_descent.specs.declared.parts.LoopHead.{LoopHead}
+use Rattle.c_descent.specs.declared.parts.Braces.{Braces}
+use Rattle.c_grammar.specs.BoundedTokens.{Tok}
+use Rattle.c_descent.specs.ListParser.{expected, deep, done, stop, Parser, follow, ◌>>=◌, gives, refuses, first_kind, is_at_sign, is_at_word, sign, word, name, all, level}
+use Rattle.c_descent.specs.ExpressionParser.{expression_at, subscript, arguments, inside}
 
 -- what a token begins in a block
 abbrev pub start_of : Option Kind → Start
@@ -36,7 +36,7 @@ start_of (Some (kinds.Word words.While)) = start.While
 start_of (Some (kinds.Word words.For)) = start.For
 start_of _ = start.Other
 
--- the same of the first token
+-- what the first token begins in a block
 unfoldable pub start_at : List Tok → Start
 start_at s = start_of (first_kind s)
 
@@ -50,7 +50,7 @@ plain_of (Some (kinds.Word words.Break)) = plain.Break
 plain_of (Some (kinds.Word words.Continue)) = plain.Continue
 plain_of _ = plain.Other
 
--- the same of the first token
+-- which statement of those the first token begins
 unfoldable pub plain_at : List Tok → Plain
 plain_at s = plain_of (first_kind s)
 
@@ -112,28 +112,28 @@ local_inside limit levels = do
 unfoldable pub local : ℕ → ℕ → Parser Stmt
 local limit levels = level levels (local_inside limit)
 
--- `= value` behind what is assigned to
+-- `= value` after what is assigned to
 unfoldable pub assigned : ℕ → ℕ → Named → Option Expr → Parser Stmt
 assigned limit levels found index = do
   _ ← sign signs.Assign
   value ← expression_at limit levels
   gives (stmt.Assign found.name index value found.token)
 
--- `[ index ] = value` behind a name
+-- `[ index ] = value` after a name
 unfoldable pub element_assigned : ℕ → ℕ → Named → Parser Stmt
 element_assigned limit levels found = do
   at ← subscript limit (inside limit levels)
   assigned limit levels found (Some at.index)
 
--- `( arguments )` behind a name
+-- `( arguments )` after a name
 unfoldable pub call : ℕ → ℕ → Named → Parser Stmt
 call limit levels found = do
   trees ← arguments limit (inside limit levels)
   gives (stmt.Call found.name trees found.token)
 
--- what stands behind the name that a statement begins with
-unfoldable pub behind_name : ℕ → ℕ → Named → Parser Stmt
-behind_name limit levels found = λ s.
+-- what stands after the name that a statement begins with
+unfoldable pub after_name : ℕ → ℕ → Named → Parser Stmt
+after_name limit levels found = λ s.
     if is_at_sign signs.LeftBracket s then element_assigned limit levels found s
     else (if is_at_sign signs.LeftParenthesis s then call limit levels found s
     else assigned limit levels found None s)
@@ -142,7 +142,7 @@ behind_name limit levels found = λ s.
 unfoldable pub named : ℕ → ℕ → Parser Stmt
 named limit levels = do
   found ← name
-  behind_name limit levels found
+  after_name limit levels found
 
 -- `( value )`
 unfoldable pub condition : ℕ → ℕ → Parser Expr

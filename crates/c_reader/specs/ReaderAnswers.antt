@@ -1,9 +1,9 @@
 -- What the reader answers to a whole text, against the parser on lists.
 use Rattle.std.specs.Prelude.{◌≡◌, ℕ, List, [], Result, Ok, Err}
 use Rattle.c_grammar.specs.declared.item.Program.{Program}
-use Rattle.c_parser.specs.Toks.{Tok}
-use Rattle.c_parser.specs.Parser.{expected, deep, Outcome, done, stop}
-use Rattle.c_parser.specs.Reads.{place_or}
+use Rattle.c_grammar.specs.BoundedTokens.{Tok}
+use Rattle.c_descent.specs.ListParser.{expected, deep, Outcome, done, stop}
+use Rattle.c_descent.specs.ListParser.{place_or}
 use Rattle.c_reader.specs.declared.error.SyntaxError.{SyntaxError}
 use Rattle.c_reader.specs.declared.error.SyntaxError.TheVariants as error
 

@@ -1,6 +1,5 @@
 -- Every statement of the grammar is read, or nests too deep.
 use Rattle.std.proofs.Common.{◌≡◌, ℕ, zero, suc, ◌+◌, ◌<◌, ◌≤◌, Bool, true, false, cond, not, List, [], ◌∷◌, ◌++◌, Option, Some, None, refl, sym, ap, ◌∙◌, subst, true≢false, arith, append_assoc, append-nil}
-use Rattle.arrayvec.specs.ArrayString.{ArrayString}
 use Rattle.c_token.specs.declared.signs.Sign.{Sign}
 use Rattle.c_token.specs.declared.signs.Sign.TheVariants as signs
 use Rattle.c_token.specs.declared.words.Word.TheVariants as words
@@ -15,28 +14,28 @@ use Rattle.c_grammar.specs.ExpressionGrammar.{Expression, Arguments}
 use Rattle.c_grammar.specs.ExpressionGrammar as ag
 use Rattle.c_grammar.specs.StatementGrammar as gr
 use Rattle.c_grammar.specs.StatementGrammar.{IsType, Local, Simple, Maybe, First, Step, Statement, Body}
-use Rattle.c_parser.specs.declared.statement.Start.{Start}
-use Rattle.c_parser.specs.declared.statement.Start.TheVariants as start
-use Rattle.c_parser.specs.declared.statement.Plain.{Plain}
-use Rattle.c_parser.specs.declared.statement.Plain.TheVariants as plain
-use Rattle.c_parser.specs.Parser.{expected, deep, Outcome, done, stop, Parser, follow, ◌>>=◌, gives, first_kind, is_some_sign, is_some_word, is_at_sign, is_at_word, sign, word, name, level}
-use Rattle.c_parser.specs.Expressions.{inside, subscript, arguments}
-use Rattle.c_parser.specs.Expressions as ex
-use Rattle.c_parser.specs.Statements as p
-use Rattle.c_parser.specs.Statements.{start_of, start_at, plain_of, plain_at, begins_simple, begins_statement}
-use Rattle.c_parser.proofs.Holds.{Always, Many, none_left, one_more}
-use Rattle.c_parser.proofs.ComesLists.{all_reads}
-use Rattle.c_parser.proofs.Bodies.{St, Entry, local_entry, statement_entry, entry_takes, entry_at, statement_at}
-use Rattle.c_parser.proofs.Bodies as go
-use Rattle.c_parser.proofs.Comes.{To, arrives, late, Goes, put-append, step, map_to, sign_goes, name_goes, word_goes}
-use Rattle.c_parser.proofs.Expressing.{inside_at}
-use Rattle.c_parser.proofs.Comprehending.{Ends, ends_right, ends_semicolon, whole_reads, subscript_reads, arguments_reads, inside_reads, expression_no_semicolon}
+use Rattle.c_descent.specs.declared.parts.Start.{Start}
+use Rattle.c_descent.specs.declared.parts.Start.TheVariants as start
+use Rattle.c_descent.specs.declared.parts.Plain.{Plain}
+use Rattle.c_descent.specs.declared.parts.Plain.TheVariants as plain
+use Rattle.c_descent.specs.ListParser.{expected, deep, Outcome, done, stop, Parser, follow, ◌>>=◌, gives, first_kind, is_some_sign, is_some_word, is_at_sign, is_at_word, sign, word, name, level}
+use Rattle.c_descent.specs.ExpressionParser.{inside, subscript, arguments}
+use Rattle.c_descent.specs.ExpressionParser as ex
+use Rattle.c_descent.specs.StatementParser as p
+use Rattle.c_descent.specs.StatementParser.{start_of, start_at, plain_of, plain_at, begins_simple, begins_statement}
+use Rattle.c_descent.proofs.Holds.{Always, Many, none_left, one_more}
+use Rattle.c_descent.proofs.ComesLists.{all_reads}
+use Rattle.c_descent.proofs.Bodies.{St, Entry, local_entry, statement_entry, entry_takes, entry_at, statement_at}
+use Rattle.c_descent.proofs.Bodies as go
+use Rattle.c_descent.proofs.Comes.{To, arrives, late, Goes, put-append, step, map_to, sign_goes, name_goes, word_goes}
+use Rattle.c_descent.proofs.Expressing.{inside_at}
+use Rattle.c_descent.proofs.Comprehending.{Ends, ends_right, ends_semicolon, whole_reads, subscript_reads, arguments_reads, inside_reads, expression_no_semicolon}
 
 is_named : Plain → Bool
 is_named plain.Named = true
 is_named _ = false
 
--- a semicolon or a parenthesis behind it
+-- a semicolon or a parenthesis after it
 pub data Closing : Sign → Type 0 where
   semicolon : Closing signs.Semicolon
   parenthesis : Closing signs.RightParenthesis
@@ -57,7 +56,7 @@ argument_parenthesis l _ _ s (ag.some left right h k) = refl
 
 module _ (limit : ℕ) where
   -- a type before a name
-  pub type_reads : (first at : Spot) (text : ArrayString) (ts : List Bounded) (u : Bool) (s : List Tok) → IsType first ts u → Goes limit p.type_name ts (tok_of (g.name at text) ∷ s) u
+  pub type_reads : (first at : Spot) (text : List ℕ) (ts : List Bounded) (u : Bool) (s : List Tok) → IsType first ts u → Goes limit p.type_name ts (tok_of (g.name at text) ∷ s) u
   unfolding p.type_name p.int_type p.unsigned_type p.optional_int is_at_word
   type_reads _ at text _ _ s (gr.int first) = map_to limit (λ _. false) (word_goes limit words.Int first _)
   type_reads _ at text _ _ s (gr.unsigned first) = step limit (word words.Unsigned) (λ _. p.optional_int) (g.word first words.Unsigned ∷ []) [] (word_goes limit words.Unsigned first _) arrives
@@ -101,13 +100,13 @@ module _ (limit : ℕ) where
         (step limit (sign signs.Assign) _ (g.sign equals signs.Assign ∷ []) us (sign_goes limit signs.Assign equals _)
         (map_to limit Some (expression_goes n (suc l) e us x _ v (ends_semicolon end s))))))
 
-    assigned_goes : (text : ArrayString) (at equals : Spot) (index : Option Expr) (ts : List Bounded) (x : Expr) (rest : List Tok) → Expression (suc l) ts x → Ends 10 rest
+    assigned_goes : (text : List ℕ) (at equals : Spot) (index : Option Expr) (ts : List Bounded) (x : Expr) (rest : List Tok) → Expression (suc l) ts x → Ends 10 rest
         → Goes limit (p.assigned limit n (record { name = text; token = at.place }) index) (g.sign equals signs.Assign ∷ ts) rest (stmt.Assign text index x at.place)
     unfolding p.assigned
     assigned_goes text at equals index ts x rest h k = step limit (sign signs.Assign) _ (g.sign equals signs.Assign ∷ []) ts (sign_goes limit signs.Assign equals _)
         (map_to limit (λ value. stmt.Assign text index value at.place) (expression_goes n (suc l) e ts x rest h k))
 
-    element_goes : (text : ArrayString) (at left right equals : Spot) (ts us : List Bounded) (x y : Expr) (rest : List Tok) → suc l < left.bound → Expression (suc (suc l)) ts x → Expression (suc l) us y → Ends 10 rest
+    element_goes : (text : List ℕ) (at left right equals : Spot) (ts us : List Bounded) (x y : Expr) (rest : List Tok) → suc l < left.bound → Expression (suc (suc l)) ts x → Expression (suc l) us y → Ends 10 rest
         → Goes limit (p.element_assigned limit n (record { name = text; token = at.place })) (g.sign left signs.LeftBracket ∷ ts ++ g.sign right signs.RightBracket ∷ g.sign equals signs.Assign ∷ us) rest (stmt.Assign text (Some x) y at.place)
     unfolding p.element_assigned
     element_goes text at left right equals ts us x y rest h v w k =
@@ -119,7 +118,7 @@ module _ (limit : ℕ) where
         (assigned_goes text at equals (Some x) us y rest w k))
 
     named_goes : (ts : List Bounded) (x : Stmt) (rest : List Tok) → Simple l ts x → (is_name : plain_of (first_kind (toks_of ts ++ rest)) ≡ plain.Named) → Ends 10 rest → Goes limit (p.named limit n) ts rest x
-    unfolding p.named p.behind_name p.call is_at_sign is_named
+    unfolding p.named p.after_name p.call is_at_sign is_named
     named_goes _ _ rest (gr.assign {ts} {x} text at equals h v) q k = step limit name _ (g.name at text ∷ []) (g.sign equals signs.Assign ∷ ts) (name_goes limit text at _)
         (assigned_goes text at equals None ts x rest v k)
     named_goes _ _ rest (gr.assign_at {ts} {us} {x} {y} text at left right equals h i v w) q k =
@@ -165,7 +164,7 @@ module _ (limit : ℕ) where
     plain_simple_goes _ _ rest (gr.release {ts} {x} at left right h v) k = release_goes ts x at left right rest v
     plain_simple_goes _ _ rest (gr.check at left right h) k = check_goes at left right rest
 
-    -- with the sign behind it
+    -- with the sign after it
     ended_goes : (q : Parser Stmt) (ts : List Bounded) (x : Stmt) (end : Spot) (rest : List Tok) → Goes limit q ts (tok_of (g.sign end signs.Semicolon) ∷ rest) x
         → Goes limit (p.ended q) (ts ++ g.sign end signs.Semicolon ∷ []) rest x
     unfolding p.ended

@@ -6,10 +6,10 @@ use Rattle.c_token.specs.declared.kinds.Kind.{Kind}
 use Rattle.c_token.specs.declared.kinds.Kind.TheVariants.{Number, Word, Sign}
 use Rattle.c_grammar.specs.declared.expr.Expr.TheVariants as e
 use Rattle.c_grammar.specs.declared.stmt.Stmt.TheVariants as t
-use Rattle.c_parser.specs.Toks.{numbered}
-use Rattle.c_parser.specs.Parser.{deep, done, stop, sign, word, number, is_at_sign, is_at_word}
-use Rattle.c_parser.specs.Expressions.{operator_at, joined, chain, chained, binary, expression, paren, literal, primary, unary_in, inside, unary, expression_at}
-use Rattle.c_parser.specs.Statements.{start_at, condition, empty, while_loop, optional_else, conditional, statement_inside, barred, statement}
+use Rattle.c_grammar.specs.BoundedTokens.{numbered}
+use Rattle.c_descent.specs.ListParser.{deep, done, stop, sign, word, number, is_at_sign, is_at_word}
+use Rattle.c_descent.specs.ExpressionParser.{operator_at, joined, chain, chained, binary, expression, paren, literal, primary, unary_in, inside, unary, expression_at}
+use Rattle.c_descent.specs.StatementParser.{start_at, condition, empty, while_loop, optional_else, conditional, statement_inside, barred, statement}
 
 abbrev n : ℕ → Kind
 n x = Number x false

@@ -8,24 +8,23 @@ use Rattle.c_token.specs.declared.kinds.Kind.{Kind}
 use Rattle.c_token.specs.declared.kinds.Kind.TheVariants as kinds
 use Rattle.c_grammar.specs.declared.expr.Expr.{Expr}
 use Rattle.c_grammar.specs.declared.expr.Expr.TheVariants as expr
-use Rattle.arrayvec.specs.ArrayString.{ArrayString}
 use Rattle.c_grammar.specs.BoundedTokens as g
 use Rattle.c_grammar.specs.BoundedTokens.{Tok, Spot, Bounded, tok_of, toks_of}
-use Rattle.c_grammar.specs.Precedence.{precedence as rank, is_unary_operator}
+use Rattle.c_grammar.specs.Precedence.{precedence, is_unary_operator}
 use Rattle.c_grammar.specs.ExpressionGrammar as gr
 use Rattle.c_grammar.specs.ExpressionGrammar.{Expression, whole, Binary, alone, tighter, both, Unary, primary, operation, Primary, literal, variable, element, parenthesised, Arguments, Listed, further}
-use Rattle.c_parser.specs.declared.expression.Grown.{Grown}
-use Rattle.c_parser.specs.Parser.{deep, Outcome, done, stop, Parser, follow, ◌>>=◌, gives, first_kind, is_some_sign, is_at_sign, sign, word, name}
-use Rattle.c_parser.specs.Expressions as p
-use Rattle.c_parser.specs.Expressions.{rank_of, operator_at, is_unary, unary_of, Inside, opened}
-use Rattle.c_parser.proofs.Holds.{Always, Seq, seq, Mapped, mapped, Many, none_left, one_more, is_sign}
-use Rattle.c_parser.proofs.Lists.{Comma}
-use Rattle.c_parser.proofs.ComesLists.{separated_reads}
-use Rattle.c_parser.proofs.Expressing.{Inner, expressing, unary_in_at, inside_at}
-use Rattle.c_parser.proofs.Chains.{zero_expression, ranks, binary_at, chained_turn, turn}
-use Rattle.c_parser.proofs.Comes.{To, arrives, late, Goes, linked, followed, put-append, step, map_to, sign_goes, name_goes, number_goes, word_goes}
+use Rattle.c_descent.specs.declared.parts.Grown.{Grown}
+use Rattle.c_descent.specs.ListParser.{deep, Outcome, done, stop, Parser, follow, ◌>>=◌, gives, first_kind, is_some_sign, is_at_sign, sign, word, name}
+use Rattle.c_descent.specs.ExpressionParser as p
+use Rattle.c_descent.specs.ExpressionParser.{operator_at, unary_of, Inside, opened}
+use Rattle.c_descent.proofs.Holds.{Always, Seq, seq, Mapped, mapped, Many, none_left, one_more, is_sign}
+use Rattle.c_descent.proofs.Lists.{Comma}
+use Rattle.c_descent.proofs.ComesLists.{separated_reads}
+use Rattle.c_descent.proofs.Expressing.{Inner, expressing, unary_in_at, inside_at}
+use Rattle.c_descent.proofs.Chains.{zero_expression, binary_at, chained_turn, turn}
+use Rattle.c_descent.proofs.Comes.{To, arrives, late, Goes, linked, followed, put-append, step, map_to, sign_goes, name_goes, number_goes, word_goes}
 
--- An expression of this rank ends before what is left.
+-- An expression of this precedence ends before what is left.
 pub record Ends (k : ℕ) (rest : List Tok) : Type 0 where
   pub operators : (j : ℕ) → j < k → operator_at (suc j) rest ≡ None
   pub bracket : is_at_sign signs.LeftBracket rest ≡ false
@@ -34,25 +33,25 @@ pub record Ends (k : ℕ) (rest : List Tok) : Type 0 where
 pub ends_tighter : (k : ℕ) (rest : List Tok) → Ends (suc k) rest → Ends k rest
 ends_tighter k rest h = record { operators = λ j l. h.operators j (omega (arith, l)); bracket = h.bracket; parenthesis = h.parenthesis }
 
--- an operator of this rank at the next token
-operator_here : (op : Sign) (at : Spot) (k : ℕ) (rest : List Tok) → rank op ≡ k → operator_at k (tok_of (g.sign at op) ∷ rest) ≡ Some op
+-- an operator of this precedence at the next token
+operator_here : (op : Sign) (at : Spot) (k : ℕ) (rest : List Tok) → precedence op ≡ k → operator_at k (tok_of (g.sign at op) ∷ rest) ≡ Some op
 unfolding operator_at
-operator_here op at k rest e = subst (λ b. cond b (Some op) None ≡ Some op) (sym (eq-eqb (rank_of op) k (ranks op ∙ e))) refl
+operator_here op at k rest e = subst (λ b. cond b (Some op) None ≡ Some op) (sym (eq-eqb (precedence op) k e)) refl
 
-operator_away : (op : Sign) (at : Spot) (k : ℕ) (rest : List Tok) → (rank op ≡ k → ⊥) → operator_at k (tok_of (g.sign at op) ∷ rest) ≡ None
+operator_away : (op : Sign) (at : Spot) (k : ℕ) (rest : List Tok) → (precedence op ≡ k → ⊥) → operator_at k (tok_of (g.sign at op) ∷ rest) ≡ None
 unfolding operator_at
-operator_away op at k rest e = subst (λ b. cond b (Some op) None ≡ None) (sym (ne_eqb (rank_of op) k (λ q. e (sym (ranks op) ∙ q)))) refl
+operator_away op at k rest e = subst (λ b. cond b (Some op) None ≡ None) (sym (ne_eqb (precedence op) k e)) refl
 
-bracket_away : (op : Sign) (at : Spot) (rest : List Tok) → 0 < rank op → is_at_sign signs.LeftBracket (tok_of (g.sign at op) ∷ rest) ≡ false
+bracket_away : (op : Sign) (at : Spot) (rest : List Tok) → 0 < precedence op → is_at_sign signs.LeftBracket (tok_of (g.sign at op) ∷ rest) ≡ false
 unfolding is_at_sign
 bracket_away op at rest h = grind arith
 
-parenthesis_away : (op : Sign) (at : Spot) (rest : List Tok) → 0 < rank op → is_at_sign signs.LeftParenthesis (tok_of (g.sign at op) ∷ rest) ≡ false
+parenthesis_away : (op : Sign) (at : Spot) (rest : List Tok) → 0 < precedence op → is_at_sign signs.LeftParenthesis (tok_of (g.sign at op) ∷ rest) ≡ false
 unfolding is_at_sign
 parenthesis_away op at rest h = grind arith
 
 -- an expression ends before a looser operator
-ends_operator : (op : Sign) (at : Spot) (k : ℕ) (rest : List Tok) → rank op ≡ suc k → Ends k (tok_of (g.sign at op) ∷ rest)
+ends_operator : (op : Sign) (at : Spot) (k : ℕ) (rest : List Tok) → precedence op ≡ suc k → Ends k (tok_of (g.sign at op) ∷ rest)
 ends_operator op at k rest e = record {
   operators = λ j l. operator_away op at (suc j) rest (λ q. omega (arith, q, e, l));
   bracket = bracket_away op at rest (omega (arith, e));
@@ -86,9 +85,9 @@ module _ (limit l : ℕ) {unary : Parser Expr} (always : Always limit unary (Una
           (h (left.used + 1) used us y rest (subst (λ n. Binary l k n us y used) (omega arith) b) e))
       go false q = late [] (g.sign at op) us refl (omega (arith, ltb-false left.used limit q, a))
 
-  -- an operator first, and then those behind it
+  -- an operator first, and then those after it
   turned : (k : ℕ) → Reads k → (left : Grown) (op : Sign) (at : Spot) (us : List Bounded) (y : Expr) (used : ℕ) (rest : List Tok)
-      → rank op ≡ suc k → left.used < at.bound → Binary l k (suc left.used) us y used → Ends k rest
+      → precedence op ≡ suc k → left.used < at.bound → Binary l k (suc left.used) us y used → Ends k rest
       → To limit (g.sign at op ∷ us) rest (p.chained limit (p.binary limit unary k) (suc k) (grown (expr.Binary op left.tree y at.place) used) rest)
       (p.chained limit (p.binary limit unary k) (suc k) left (toks_of (g.sign at op ∷ us) ++ rest))
   unfolding turn
@@ -98,7 +97,7 @@ module _ (limit l : ℕ) {unary : Parser Expr} (always : Always limit unary (Una
       ∙ ap (λ o. turn limit l k (binary_at limit l always k) o left (toks_of (g.sign at op ∷ us) ++ rest)) (operator_here op at (suc k) (toks_of us ++ rest) q)))
       (followed limit (p.chained limit (p.binary limit unary k) (suc k)) (joined_to k h left op at us y used rest a b e))
 
-  -- what the left operand and the operators behind it come to
+  -- what the left operand and the operators after it come to
   chained_to : (k : ℕ) → Reads k → (before used : ℕ) (ts : List Bounded) (x : Expr) (rest : List Tok) → Binary l (suc k) before ts x used → Ends k rest
       → To limit ts rest (p.chained limit (p.binary limit unary k) (suc k) (grown x used) rest) (p.binary limit unary (suc k) before (toks_of ts ++ rest))
   unfolding Reads p.binary
@@ -128,7 +127,7 @@ module _ (limit l : ℕ) {unary : Parser Expr} (always : Always limit unary (Una
   expression_reads ts x rest (whole {used} b) e = map_to limit (λ grown. grown.tree) (binary_reads 10 0 used ts x rest b e)
 
 -- a sign that ends each expression
-pub ends_sign : (x : Sign) (at : Spot) (rest : List Tok) → rank x ≡ 0 → is_at_sign signs.LeftBracket (tok_of (g.sign at x) ∷ rest) ≡ false
+pub ends_sign : (x : Sign) (at : Spot) (rest : List Tok) → precedence x ≡ 0 → is_at_sign signs.LeftBracket (tok_of (g.sign at x) ∷ rest) ≡ false
     → is_at_sign signs.LeftParenthesis (tok_of (g.sign at x) ∷ rest) ≡ false → Ends 10 (tok_of (g.sign at x) ∷ rest)
 ends_sign x at rest e b c = record {
   operators = λ j l. operator_away x at (suc j) rest (λ q. omega (arith, q, e));
@@ -300,11 +299,11 @@ module _ (limit l : ℕ) where
         (step limit (p.listed limit unary) _ ts (g.sign right signs.RightParenthesis ∷ []) (list_reads limit (suc l) a u ts xs right rest k)
         (map_to limit (λ _. xs) (sign_goes limit signs.RightParenthesis right rest))))
 
-    -- what stands behind a name
-    element_reads : (text : ArrayString) (ts : List Bounded) (x : Expr) (at left right : Spot) (rest : List Tok) → l < left.bound → Expression (suc l) ts x
+    -- what stands after a name
+    element_reads : (text : List ℕ) (ts : List Bounded) (x : Expr) (at left right : Spot) (rest : List Tok) → l < left.bound → Expression (suc l) ts x
         → Goes limit (p.named limit inside) (g.name at text ∷ g.sign left signs.LeftBracket ∷ ts ++ g.sign right signs.RightBracket ∷ []) rest (expr.Index text x left.place)
-    unfolding p.named p.behind_name p.indexed is_at_sign
-    element_reads text ts x at left right rest h e = step limit name (p.behind_name limit inside) (g.name at text ∷ []) (g.sign left signs.LeftBracket ∷ ts ++ g.sign right signs.RightBracket ∷ [])
+    unfolding p.named p.after_name p.indexed is_at_sign
+    element_reads text ts x at left right rest h e = step limit name (p.after_name limit inside) (g.name at text ∷ []) (g.sign left signs.LeftBracket ∷ ts ++ g.sign right signs.RightBracket ∷ [])
         (name_goes limit text at _)
         (map_to limit (λ found. expr.Index text found.index found.token) (subscript_reads ts [] x left right rest h e))
 
@@ -314,17 +313,17 @@ module _ (limit l : ℕ) where
     argument_first _ _ s (gr.nothing left right h) = (refl, refl)
     argument_first _ _ s (gr.some left right h k) = (refl, refl)
 
-    called_reads : (text : ArrayString) (ts : List Bounded) (xs : List Expr) (at : Spot) (rest : List Tok) → Arguments l ts xs
+    called_reads : (text : List ℕ) (ts : List Bounded) (xs : List Expr) (at : Spot) (rest : List Tok) → Arguments l ts xs
         → Goes limit (p.named limit inside) (g.name at text ∷ ts) rest (expr.Call text xs at.place)
-    unfolding p.named p.behind_name p.called
-    called_reads text ts xs at rest k = step limit name (p.behind_name limit inside) (g.name at text ∷ []) ts (name_goes limit text at _)
+    unfolding p.named p.after_name p.called
+    called_reads text ts xs at rest k = step limit name (p.after_name limit inside) (g.name at text ∷ []) ts (name_goes limit text at _)
         (subst (λ o. To limit ts rest (done (expr.Call text xs at.place) rest) o)
         (yes_sign signs.LeftParenthesis (toks_of ts ++ rest) _ _ (argument_first ts xs rest k).0 ∙ no_sign signs.LeftBracket (toks_of ts ++ rest) _ _ (argument_first ts xs rest k).1)
         (map_to limit (λ trees. expr.Call text trees at.place) (arguments_reads ts xs rest k)))
 
-    alone_reads : (text : ArrayString) (at : Spot) (rest : List Tok) → Ends 0 rest → Goes limit (p.named limit inside) (g.name at text ∷ []) rest (expr.Name text at.place)
-    unfolding p.named p.behind_name
-    alone_reads text at rest e = step limit name (p.behind_name limit inside) (g.name at text ∷ []) [] (name_goes limit text at _)
+    alone_reads : (text : List ℕ) (at : Spot) (rest : List Tok) → Ends 0 rest → Goes limit (p.named limit inside) (g.name at text ∷ []) rest (expr.Name text at.place)
+    unfolding p.named p.after_name
+    alone_reads text at rest e = step limit name (p.after_name limit inside) (g.name at text ∷ []) [] (name_goes limit text at _)
         (subst (λ o. To limit [] rest (done (expr.Name text at.place) rest) o)
         (no_sign signs.LeftParenthesis rest _ _ e.parenthesis ∙ no_sign signs.LeftBracket rest _ _ e.bracket) arrives)
 

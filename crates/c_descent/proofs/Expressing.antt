@@ -13,16 +13,16 @@ use Rattle.c_grammar.specs.BoundedTokens.{Tok, Spot, Bounded, tok_of, bounded, b
 use Rattle.c_grammar.specs.Precedence.{is_unary_operator}
 use Rattle.c_grammar.specs.ExpressionGrammar as gr
 use Rattle.c_grammar.specs.ExpressionGrammar.{Expression, whole, Binary, Unary, primary, operation, Primary, literal, Arguments, Listed}
-use Rattle.c_parser.specs.declared.cursor.Named.{Named}
-use Rattle.c_parser.specs.declared.expression.Bracketed.{Bracketed}
-use Rattle.c_parser.specs.declared.expression.Operand.{Operand}
-use Rattle.c_parser.specs.declared.expression.Operand.TheVariants as operand
-use Rattle.c_parser.specs.Parser.{done, Parser, first_kind, is_some_sign, is_at_sign, separated}
-use Rattle.c_parser.specs.Expressions as p
-use Rattle.c_parser.specs.Expressions.{is_unary, unary_of, operand_of, Inside, opened}
-use Rattle.c_parser.proofs.Holds.{Seq, seq, Mapped, mapped, Alike, Holds, Always, Full, mono, bind, mapping, mapped_at, dispatch, head_kind, Nothing, nothing, giving, free, full_seq, full_mapped, full_sign, OpensSign, opens_sign, above_at, above_ok, opening_sign, deep_first, IsSign, is_sign, signing, IsWord, is_word, wording, IsName, is_name, naming, IsNumber, is_number, numbering, Many, some_sign, refusing}
-use Rattle.c_parser.proofs.Lists.{head_sign, Comma, separating, separated_made}
-use Rattle.c_parser.proofs.Chains.{zero_token, zero_tree, zero_unary, zero_expression, Operand as Grows, binary_at}
+use Rattle.c_descent.specs.declared.parts.Named.{Named}
+use Rattle.c_descent.specs.declared.parts.Bracketed.{Bracketed}
+use Rattle.c_descent.specs.declared.parts.Operand.{Operand}
+use Rattle.c_descent.specs.declared.parts.Operand.TheVariants as operand
+use Rattle.c_descent.specs.ListParser.{done, Parser, first_kind, is_some_sign, is_at_sign, separated}
+use Rattle.c_descent.specs.ExpressionParser as p
+use Rattle.c_descent.specs.ExpressionParser.{unary_of, operand_of, Inside, opened}
+use Rattle.c_descent.proofs.Holds.{Seq, seq, Mapped, mapped, Alike, Holds, Always, Full, mono, bind, mapping, mapped_at, dispatch, head_kind, Nothing, nothing, giving, free, full_seq, full_mapped, full_sign, OpensSign, opens_sign, above_at, above_ok, opening_sign, deep_first, IsSign, is_sign, signing, IsWord, is_word, wording, IsName, is_name, naming, IsNumber, is_number, numbering, Many, some_sign, refusing}
+use Rattle.c_descent.proofs.Lists.{head_sign, Comma, separating, separated_made}
+use Rattle.c_descent.proofs.Chains.{zero_token, zero_tree, zero_unary, zero_expression, Operand as Grows, binary_at}
 
 -- what reads unary expressions one level deeper
 abbrev pub Inner : ℕ → ℕ → Inside → Type 0
@@ -179,7 +179,7 @@ module _ (limit l : ℕ) where
       (λ place. bind limit _ (λ inner. full_mapped _ (full_sign signs.RightParenthesis)) (listing_inners limit (suc l) u)
       (λ inner. mapping limit _ (signing limit signs.RightParenthesis))) s))
 
-  -- what stands behind a name makes an operand of it
+  -- what stands after a name makes an operand of it
   After : Named → List Bounded → Expr → Type 0
   After found ts x = (bound : ℕ) → Primary l (g.name (record { place = found.token; bound = bound }) found.name ∷ ts) x
 
@@ -199,9 +199,9 @@ module _ (limit l : ℕ) where
   unfolding After
   after_none found _ _ nothing bound = gr.variable found.name (record { place = found.token; bound = bound })
 
-  behind_name_at : (inside : Inside) → Inner limit l inside → (found : Named) → Always limit (p.behind_name limit inside found) (After found)
-  unfolding p.behind_name p.indexed p.called
-  behind_name_at inside h found s = if_sign limit signs.LeftBracket _ _ s
+  after_name_at : (inside : Inside) → Inner limit l inside → (found : Named) → Always limit (p.after_name limit inside found) (After found)
+  unfolding p.after_name p.indexed p.called
+  after_name_at inside h found s = if_sign limit signs.LeftBracket _ _ s
       (λ e. mono limit (after_index found) (mapped_at limit _ (subscript_at inside h s (at_sign signs.LeftBracket s e))))
       (λ e. if_sign limit signs.LeftParenthesis _ _ s
       (λ e. mono limit (after_call found) (mapped_at limit _ (arguments_at inside h s (at_sign signs.LeftParenthesis s e))))
@@ -216,7 +216,7 @@ module _ (limit l : ℕ) where
 
   named_at : (inside : Inside) → Inner limit l inside → Always limit (p.named limit inside) (Primary l)
   unfolding p.named
-  named_at inside h s = mono limit named_made (bind limit _ after_full (naming limit) (behind_name_at inside h) s)
+  named_at inside h s = mono limit named_made (bind limit _ after_full (naming limit) (after_name_at inside h) s)
 
   literal_made : (ts : List Bounded) (x : Expr) → Mapped IsNumber (λ found. expr.Number found.value found.unsigned found.token) ts x → Primary l ts x
   literal_made _ x (mapped _ (is_number at value unsigned) e) = subst (λ x. Primary l (g.number at value unsigned ∷ []) x) (sym e) (literal value unsigned at)

@@ -1,4 +1,4 @@
--- How programs are read. `limit` is how many operators of two operands one expression may have,
+-- Device: how programs are read. `limit` is how many operators of two operands one expression may have,
 -- and `levels` how many levels may be open.
 use Rattle.std.specs.Prelude.{ℕ, Bool, true, false, List, [], ◌∷◌, Option, Some, None, if◌then◌else◌}
 use Rattle.c_token.specs.declared.words.Word.{Word}
@@ -15,13 +15,13 @@ use Rattle.c_grammar.specs.declared.item.Kind3.TheVariants as result
 use Rattle.c_grammar.specs.declared.item.Parameter.{Parameter}
 use Rattle.c_grammar.specs.declared.item.Value.{Value}
 use Rattle.c_grammar.specs.declared.item.Program.{Program}
-use Rattle.c_parser.specs.declared.cursor.Named.{Named}
-use Rattle.c_reader.specs.declared.item.Heading.{Heading}
-use Rattle.c_reader.specs.declared.item.Heading.TheVariants as heading
-use Rattle.c_reader.specs.declared.item.Given.{Given}
-use Rattle.c_parser.specs.Toks.{Tok}
-use Rattle.c_parser.specs.Parser.{done, Parser, ◌>>=◌, gives, refuses, first_kind, is_left, is_at_sign, is_at_word, sign, word, name, number, all, separated}
-use Rattle.c_parser.specs.Statements.{type_name, braced, statement}
+use Rattle.c_descent.specs.declared.parts.Named.{Named}
+use Rattle.c_descent.specs.declared.parts.Heading.{Heading}
+use Rattle.c_descent.specs.declared.parts.Heading.TheVariants as heading
+use Rattle.c_descent.specs.declared.parts.Given.{Given}
+use Rattle.c_grammar.specs.BoundedTokens.{Tok}
+use Rattle.c_descent.specs.ListParser.{done, Parser, ◌>>=◌, gives, refuses, first_kind, is_left, is_at_sign, is_at_word, sign, word, name, number, all, separated}
+use Rattle.c_descent.specs.StatementParser.{type_name, braced, statement}
 
 -- what a token begins at the top of a program
 abbrev pub heading_of : Option Kind → Heading
@@ -36,7 +36,7 @@ heading_of (Some (kinds.Word words.Int)) = heading.Type
 heading_of (Some (kinds.Word words.Unsigned)) = heading.Type
 heading_of _ = heading.Other
 
--- the same of the first token
+-- what the first token begins at the top of a program
 unfoldable pub heading_at : List Tok → Heading
 heading_at s = heading_of (first_kind s)
 
@@ -49,14 +49,14 @@ optional_length = λ s. if is_at_sign signs.LeftBracket s then (do
   gives (Some found.value)) s
     else done None s
 
--- what stands behind the name of an object
+-- what stands after the name of an object
 unfoldable pub object_rest : Storage → Bool → Named → Parser Item
 object_rest class unsigned found = do
   length ← optional_length
   _ ← sign signs.Semicolon
   gives (item.Object class unsigned found.name length found.token)
 
--- a word of storage, and the object behind it
+-- a word of storage, and the object after it
 unfoldable pub object : Word → Storage → Parser Item
 object w class = do
   _ ← word w
@@ -97,7 +97,7 @@ braced_values = do
 unfoldable pub values : Parser Given
 values = λ s. if is_at_sign signs.LeftBrace s then braced_values s else one_value s
 
--- what stands behind the name of a constant
+-- what stands after the name of a constant
 unfoldable pub constant_rest : Bool → Named → Parser Item
 constant_rest unsigned found = do
   length ← optional_length
@@ -158,7 +158,7 @@ parameters = do
   _ ← sign signs.RightParenthesis
   gives trees
 
--- what stands behind the name of a function
+-- what stands after the name of a function
 unfoldable pub function_rest : ℕ → ℕ → Bool → Kind3 → Named → Parser Item
 function_rest limit levels private result found = do
   params ← parameters
@@ -182,25 +182,25 @@ abbrev pub result_of : Bool → Kind3
 result_of true = result.Unsigned
 result_of false = result.Int
 
--- what stands behind a type and a name: a function's parameters, or the rest of an object
+-- what stands after a type and a name: a function's parameters, or the rest of an object
 unfoldable pub typed_rest : ℕ → ℕ → Bool → Bool → Named → Parser Item
 typed_rest limit levels private unsigned found = λ s.
     if is_at_sign signs.LeftParenthesis s then function_rest limit levels private (result_of unsigned) found s
     else object_rest (storage_of private) unsigned found s
 
--- a type, and the function or the object behind it
+-- a type, and the function or the object after it
 unfoldable pub typed : ℕ → ℕ → Bool → Parser Item
 typed limit levels private = do
   unsigned ← type_name
   found ← name
   typed_rest limit levels private unsigned found
 
--- a function, or an object behind no word of storage or `__private`
+-- a function, or an object after no word of storage or `__private`
 unfoldable pub declared : ℕ → ℕ → Bool → Parser Item
 declared limit levels private = λ s.
     if is_at_word words.Void s then void_function limit levels private s else typed limit levels private s
 
--- `__private`, and the function or the object behind it
+-- `__private`, and the function or the object after it
 unfoldable pub private_item : ℕ → ℕ → Parser Item
 private_item limit levels = do
   _ ← word words.Private

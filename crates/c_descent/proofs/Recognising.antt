@@ -1,6 +1,5 @@
 -- Every program of the grammar is read, or nests too deep.
 use Rattle.std.proofs.Common.{◌≡◌, ℕ, zero, ◌+◌, ◌<◌, length, Bool, true, false, cond, List, [], ◌∷◌, ◌++◌, Option, Some, None, refl, sym, ap, ◌∙◌, subst, arith, append_assoc, append-nil}
-use Rattle.arrayvec.specs.ArrayString.{ArrayString}
 use Rattle.c_token.specs.declared.signs.Sign.TheVariants as signs
 use Rattle.c_token.specs.declared.words.Word.{Word}
 use Rattle.c_token.specs.declared.words.Word.TheVariants as words
@@ -20,19 +19,19 @@ use Rattle.c_grammar.specs.StatementGrammar as gs
 use Rattle.c_grammar.specs.StatementGrammar.{IsType, Body}
 use Rattle.c_grammar.specs.ProgramGrammar as gr
 use Rattle.c_grammar.specs.ProgramGrammar.{IsStorage, IsLength, IsValue, AreValues, AreInitial, IsResult, IsParameter, AreListed, AreParameters, IsPrivate, IsItem, AreItems, IsProgram}
-use Rattle.c_parser.specs.declared.cursor.Named.{Named}
-use Rattle.c_reader.specs.declared.item.Heading.TheVariants as heading
-use Rattle.c_parser.specs.Parser.{done, Parser, follow, ◌>>=◌, gives, first_kind, is_left, is_at_sign, is_at_word, sign, word, name, number, separated}
-use Rattle.c_parser.specs.Statements as st
-use Rattle.c_reader.specs.Programs as p
-use Rattle.c_reader.specs.Programs.{heading_of, heading_at, storage_of, result_of}
-use Rattle.c_parser.proofs.Holds.{Seq, seq, Mapped, mapped, Many, none_left, one_more, is_sign}
-use Rattle.c_parser.proofs.Lists.{Comma}
-use Rattle.c_parser.proofs.Comes.{To, arrives, Goes, step, map_to, sign_goes, name_goes, number_goes, word_goes}
-use Rattle.c_parser.proofs.ComesLists.{all_reads, separated_reads}
-use Rattle.c_parser.proofs.Bodies.{statement_at}
-use Rattle.c_reader.proofs.Declaring.{parameter_at, full_parameter, value_at, full_value, item_at, item_takes, head_left}
-use Rattle.c_parser.proofs.Understanding.{type_reads, braced_goes, statement_goes}
+use Rattle.c_descent.specs.declared.parts.Named.{Named}
+use Rattle.c_descent.specs.declared.parts.Heading.TheVariants as heading
+use Rattle.c_descent.specs.ListParser.{done, Parser, follow, ◌>>=◌, gives, first_kind, is_left, is_at_sign, is_at_word, sign, word, name, number, separated}
+use Rattle.c_descent.specs.StatementParser as st
+use Rattle.c_descent.specs.ProgramParser as p
+use Rattle.c_descent.specs.ProgramParser.{heading_of, heading_at, storage_of, result_of}
+use Rattle.c_descent.proofs.Holds.{Seq, seq, Mapped, mapped, Many, none_left, one_more, is_sign}
+use Rattle.c_descent.proofs.Lists.{Comma}
+use Rattle.c_descent.proofs.Comes.{To, arrives, Goes, step, map_to, sign_goes, name_goes, number_goes, word_goes}
+use Rattle.c_descent.proofs.ComesLists.{all_reads, separated_reads}
+use Rattle.c_descent.proofs.Bodies.{statement_at}
+use Rattle.c_descent.proofs.Declaring.{parameter_at, full_parameter, value_at, full_value, item_at, item_takes, head_left}
+use Rattle.c_descent.proofs.Understanding.{type_reads, braced_goes, statement_goes}
 
 -- what a type begins with
 module _ (us : List Bounded) (s : List Tok) where
@@ -104,24 +103,24 @@ module _ (limit : ℕ) where
   length_goes _ us _ y s q (gr.IsLength.given n u left at right) = step limit (sign signs.LeftBracket) _ (g.sign left signs.LeftBracket ∷ []) (g.number at n u ∷ g.sign right signs.RightBracket ∷ []) (sign_goes limit signs.LeftBracket left _)
       (step limit number _ (g.number at n u ∷ []) (g.sign right signs.RightBracket ∷ []) (number_goes limit n u at _) (map_to limit (λ _. Some n) (sign_goes limit signs.RightBracket right _)))
 
-  object_rest_goes : (class : Storage) (u : Bool) (text : ArrayString) (at end : Spot) (ts : List Bounded) (x : Option ℕ) (s : List Tok) → IsLength ts x
+  object_rest_goes : (class : Storage) (u : Bool) (text : List ℕ) (at end : Spot) (ts : List Bounded) (x : Option ℕ) (s : List Tok) → IsLength ts x
       → Goes limit (p.object_rest class u (record { name = text; token = at.place })) (ts ++ g.sign end signs.Semicolon ∷ []) s (item.Object class u text x at.place)
   unfolding p.object_rest is_at_sign
   object_rest_goes class u text at end ts x s h = step limit p.optional_length _ ts (g.sign end signs.Semicolon ∷ []) (length_goes ts [] x (g.sign end signs.Semicolon) _ refl h)
       (map_to limit (λ _. item.Object class u text x at.place) (sign_goes limit signs.Semicolon end s))
 
   -- a type and a name, and what follows
-  behind_type : {A : Type 0} (f : Bool → Named → Parser A) (first at : Spot) (text : ArrayString) (us ts : List Bounded) (u : Bool) (rest : List Tok) (x : A) → IsType first us u
+  after_type : {A : Type 0} (f : Bool → Named → Parser A) (first at : Spot) (text : List ℕ) (us ts : List Bounded) (u : Bool) (rest : List Tok) (x : A) → IsType first us u
       → Goes limit (f u (record { name = text; token = at.place })) ts rest x
       → Goes limit (st.type_name >>= (λ u. name >>= (λ found. f u found))) (us ++ (g.name at text ∷ ts)) rest x
-  behind_type f first at text us ts u rest x t h = step limit st.type_name (λ u. name >>= (λ found. f u found)) us (g.name at text ∷ ts) (type_reads limit first at text us u _ t)
+  after_type f first at text us ts u rest x t h = step limit st.type_name (λ u. name >>= (λ found. f u found)) us (g.name at text ∷ ts) (type_reads limit first at text us u _ t)
       (step limit name (λ found. f u found) (g.name at text ∷ []) ts (name_goes limit text at _) h)
 
-  stored_goes : (w : Word) (class : Storage) (before first at end : Spot) (text : ArrayString) (us ts : List Bounded) (u : Bool) (x : Option ℕ) (s : List Tok) → IsType first us u → IsLength ts x
+  stored_goes : (w : Word) (class : Storage) (before first at end : Spot) (text : List ℕ) (us ts : List Bounded) (u : Bool) (x : Option ℕ) (s : List Tok) → IsType first us u → IsLength ts x
       → Goes limit (p.object w class) (g.word before w ∷ us ++ (g.name at text ∷ ts ++ g.sign end signs.Semicolon ∷ [])) s (item.Object class u text x at.place)
   unfolding p.object
   stored_goes w class before first at end text us ts u x s t h = step limit (word w) _ (g.word before w ∷ []) (us ++ (g.name at text ∷ ts ++ g.sign end signs.Semicolon ∷ [])) (word_goes limit w before _)
-      (behind_type (p.object_rest class) first at text us (ts ++ g.sign end signs.Semicolon ∷ []) u s _ t (object_rest_goes class u text at end ts x s h))
+      (after_type (p.object_rest class) first at text us (ts ++ g.sign end signs.Semicolon ∷ []) u s _ t (object_rest_goes class u text at end ts x s h))
 
   -- values
   value_goes : (ts : List Bounded) (x : Value) (s : List Tok) → IsValue ts x → Goes limit p.value ts s x
@@ -142,19 +141,19 @@ module _ (limit : ℕ) where
       (separated_reads limit (value_at limit) (full_value limit) (λ s. Unit {0}) (λ at s. tt) (λ ts x s h n. value_goes ts x s h) ts xs _ (values_seq ts xs h) tt refl)
       (map_to limit (λ _. record { values = xs; braces = true }) (sign_goes limit signs.RightBrace right _)))
 
-  constant_goes : (const first at equals end : Spot) (text : ArrayString) (ts us vs : List Bounded) (u braces : Bool) (length : Option ℕ) (values : List Value) (s : List Tok)
+  constant_goes : (const first at equals end : Spot) (text : List ℕ) (ts us vs : List Bounded) (u braces : Bool) (length : Option ℕ) (values : List Value) (s : List Tok)
       → IsType first ts u → IsLength us length → AreInitial vs values braces
       → Goes limit p.constant (g.word const words.Const ∷ ts ++ (g.name at text ∷ us ++ (g.sign equals signs.Assign ∷ vs ++ g.sign end signs.Semicolon ∷ []))) s (item.Constant u text length values braces at.place)
   unfolding p.constant p.constant_rest is_at_sign
   constant_goes const first at equals end text ts us vs u braces length values s t h v =
       step limit (word words.Const) _ (g.word const words.Const ∷ []) (ts ++ (g.name at text ∷ us ++ (g.sign equals signs.Assign ∷ vs ++ g.sign end signs.Semicolon ∷ []))) (word_goes limit words.Const const _)
-      (behind_type p.constant_rest first at text ts (us ++ (g.sign equals signs.Assign ∷ vs ++ g.sign end signs.Semicolon ∷ [])) u s _ t
+      (after_type p.constant_rest first at text ts (us ++ (g.sign equals signs.Assign ∷ vs ++ g.sign end signs.Semicolon ∷ [])) u s _ t
       (step limit p.optional_length _ us (g.sign equals signs.Assign ∷ vs ++ g.sign end signs.Semicolon ∷ []) (length_goes us [] length (g.sign equals signs.Assign) _ refl h)
       (step limit (sign signs.Assign) _ (g.sign equals signs.Assign ∷ []) (vs ++ g.sign end signs.Semicolon ∷ []) (sign_goes limit signs.Assign equals _)
       (step limit p.values _ vs (g.sign end signs.Semicolon ∷ []) (givens_goes vs values braces end s v)
       (map_to limit (λ _. item.Constant u text length values braces at.place) (sign_goes limit signs.Semicolon end s))))))
 
-  untrusted_goes : (first void at left inner right end : Spot) (text : ArrayString) (s : List Tok)
+  untrusted_goes : (first void at left inner right end : Spot) (text : List ℕ) (s : List Tok)
       → Goes limit p.untrusted (g.word first words.Untrusted ∷ g.word void words.Void ∷ g.name at text ∷ g.sign left signs.LeftParenthesis ∷ g.word inner words.Void ∷ g.sign right signs.RightParenthesis ∷ g.sign end signs.Semicolon ∷ []) s (item.Untrusted text at.place)
   unfolding p.untrusted p.no_parameters
   untrusted_goes first void at left inner right end text s =
@@ -194,11 +193,11 @@ module _ (limit : ℕ) where
       (step limit p.listed _ ts (g.sign right signs.RightParenthesis ∷ []) (listed_goes ts xs right s h) (map_to limit (λ _. xs) (sign_goes limit signs.RightParenthesis right s)))
 
   module _ (levels : ℕ) (e : 0 + levels ≡ limit) where
-    -- what stands behind a function's name
+    -- what stands after a function's name
     abbrev rest_tokens : (vs ws : List Bounded) (left right start end : Spot) → List Bounded
     rest_tokens vs ws left right start end = g.sign left signs.LeftParenthesis ∷ vs ++ (g.sign right signs.RightParenthesis ∷ g.sign start signs.LeftBrace ∷ ws ++ g.sign end signs.RightBrace ∷ [])
 
-    function_rest_goes : (b : Bool) (result : Kind3) (text : ArrayString) (at left right start end : Spot) (vs ws : List Bounded) (params : List Parameter) (body : List Stmt) (s : List Tok)
+    function_rest_goes : (b : Bool) (result : Kind3) (text : List ℕ) (at left right start end : Spot) (vs ws : List Bounded) (params : List Parameter) (body : List Stmt) (s : List Tok)
         → AreParameters vs params → Body zero ws body
         → Goes limit (p.function_rest limit levels b result (record { name = text; token = at.place })) (rest_tokens vs ws left right start end) s (item.Function b result text params body at.place)
     unfolding p.function_rest
@@ -210,7 +209,7 @@ module _ (limit : ℕ) where
         (map_to limit (λ block. item.Function b result text params block.body at.place)
         (braced_goes limit levels 0 e (statement_at limit levels 0 e) (statement_goes limit levels 0 e) ws body start end s k)))
 
-    void_function_goes : (b : Bool) (void at left right start end : Spot) (text : ArrayString) (vs ws : List Bounded) (params : List Parameter) (body : List Stmt) (s : List Tok)
+    void_function_goes : (b : Bool) (void at left right start end : Spot) (text : List ℕ) (vs ws : List Bounded) (params : List Parameter) (body : List Stmt) (s : List Tok)
         → AreParameters vs params → Body zero ws body
         → Goes limit (p.void_function limit levels b) (g.word void words.Void ∷ g.name at text ∷ rest_tokens vs ws left right start end) s (item.Function b kind3.Void text params body at.place)
     unfolding p.void_function
@@ -219,25 +218,25 @@ module _ (limit : ℕ) where
         (step limit name _ (g.name at text ∷ []) (rest_tokens vs ws left right start end) (name_goes limit text at _)
         (function_rest_goes b kind3.Void text at left right start end vs ws params body s h k))
 
-    typed_function_goes : (b u : Bool) (first at left right start end : Spot) (text : ArrayString) (us vs ws : List Bounded) (params : List Parameter) (body : List Stmt) (s : List Tok)
+    typed_function_goes : (b u : Bool) (first at left right start end : Spot) (text : List ℕ) (us vs ws : List Bounded) (params : List Parameter) (body : List Stmt) (s : List Tok)
         → IsType first us u → AreParameters vs params → Body zero ws body
         → Goes limit (p.typed limit levels b) (us ++ (g.name at text ∷ rest_tokens vs ws left right start end)) s (item.Function b (result_of u) text params body at.place)
     unfolding p.typed p.typed_rest is_at_sign
     typed_function_goes b u first at left right start end text us vs ws params body s t h k =
-        behind_type (p.typed_rest limit levels b) first at text us (rest_tokens vs ws left right start end) u s _ t
+        after_type (p.typed_rest limit levels b) first at text us (rest_tokens vs ws left right start end) u s _ t
         (function_rest_goes b (result_of u) text at left right start end vs ws params body s h k)
 
-    typed_object_goes : (b u : Bool) (first at end : Spot) (text : ArrayString) (us ts : List Bounded) (x : Option ℕ) (s : List Tok) → IsType first us u → IsLength ts x
+    typed_object_goes : (b u : Bool) (first at end : Spot) (text : List ℕ) (us ts : List Bounded) (x : Option ℕ) (s : List Tok) → IsType first us u → IsLength ts x
         → Goes limit (p.typed limit levels b) (us ++ (g.name at text ∷ ts ++ g.sign end signs.Semicolon ∷ [])) s (item.Object (storage_of b) u text x at.place)
     unfolding p.typed p.typed_rest
     typed_object_goes b u first at end text us ts x s t h =
-        behind_type (p.typed_rest limit levels b) first at text us (ts ++ g.sign end signs.Semicolon ∷ []) u s _ t
+        after_type (p.typed_rest limit levels b) first at text us (ts ++ g.sign end signs.Semicolon ∷ []) u s _ t
         (subst (λ q. To limit (ts ++ g.sign end signs.Semicolon ∷ []) s (done (item.Object (storage_of b) u text x at.place) s)
         (cond q (p.function_rest limit levels b (result_of u) (record { name = text; token = at.place }) (toks_of (ts ++ g.sign end signs.Semicolon ∷ []) ++ s))
         (p.object_rest (storage_of b) u (record { name = text; token = at.place }) (toks_of (ts ++ g.sign end signs.Semicolon ∷ []) ++ s))))
         (sym (length_no_parenthesis ts x end s h)) (object_rest_goes (storage_of b) u text at end ts x s h))
 
-    -- behind `__private` or nothing
+    -- after `__private` or nothing
     declared_typed : (b u : Bool) (first : Spot) (us ts : List Bounded) (x : Item) (s : List Tok) → IsType first us u → Goes limit (p.typed limit levels b) (us ++ ts) s x
         → Goes limit (p.declared limit levels b) (us ++ ts) s x
     unfolding p.declared
@@ -254,7 +253,7 @@ module _ (limit : ℕ) where
     unfolding p.item_inside heading_at
     typed_item_goes u first us ts x s t h = subst (λ k. To limit (us ++ ts) s (done x s) (p.item_by limit levels k (toks_of (us ++ ts) ++ s))) (sym (type_heading ts s first us u t)) h
 
-    object_goes : (class : Storage) (u : Bool) (first at end : Spot) (text : ArrayString) (ts us vs : List Bounded) (x : Option ℕ) (s : List Tok) → IsStorage ts class → IsType first us u → IsLength vs x
+    object_goes : (class : Storage) (u : Bool) (first at end : Spot) (text : List ℕ) (ts us vs : List Bounded) (x : Option ℕ) (s : List Tok) → IsStorage ts class → IsType first us u → IsLength vs x
         → Goes limit (p.item_inside limit levels) (ts ++ (us ++ (g.name at text ∷ vs ++ g.sign end signs.Semicolon ∷ []))) s (item.Object class u text x at.place)
     unfolding p.item_inside heading_at
     object_goes _ u first at end text _ us vs x s gr.IsStorage.nothing t h = typed_item_goes u first us _ _ s t (typed_object_goes false u first at end text us vs x s t h)
@@ -264,8 +263,8 @@ module _ (limit : ℕ) where
     object_goes _ u first at end text _ us vs x s (gr.IsStorage.shared before) t h = stored_goes words.Shared storage.Shared before first at end text us vs u x s t h
     object_goes _ u first at end text _ us vs x s (gr.IsStorage.logged before) t h = stored_goes words.Logged storage.Logged before first at end text us vs u x s t h
 
-    -- the function's answer and name, and what follows, behind `__private`
-    private_function : (result : Kind3) (at left right start end : Spot) (text : ArrayString) (us vs ws : List Bounded) (params : List Parameter) (body : List Stmt) (s : List Tok)
+    -- the function's answer and name, and what follows, after `__private`
+    private_function : (result : Kind3) (at left right start end : Spot) (text : List ℕ) (us vs ws : List Bounded) (params : List Parameter) (body : List Stmt) (s : List Tok)
         → IsResult us result → AreParameters vs params → Body zero ws body
         → Goes limit (p.declared limit levels true) (us ++ (g.name at text ∷ rest_tokens vs ws left right start end)) s (item.Function true result text params body at.place)
     unfolding p.declared is_at_word
@@ -275,7 +274,7 @@ module _ (limit : ℕ) where
         declared_typed true true first us _ _ s t (typed_function_goes true true first at left right start end text us vs ws params body s t h k)
     private_function _ at left right start end text _ vs ws params body s (gr.IsResult.void void) h k = void_function_goes true void at left right start end text vs ws params body s h k
 
-    plain_function : (result : Kind3) (at left right start end : Spot) (text : ArrayString) (us vs ws : List Bounded) (params : List Parameter) (body : List Stmt) (s : List Tok)
+    plain_function : (result : Kind3) (at left right start end : Spot) (text : List ℕ) (us vs ws : List Bounded) (params : List Parameter) (body : List Stmt) (s : List Tok)
         → IsResult us result → AreParameters vs params → Body zero ws body
         → Goes limit (p.item_inside limit levels) (us ++ (g.name at text ∷ rest_tokens vs ws left right start end)) s (item.Function false result text params body at.place)
     unfolding p.item_inside heading_at
@@ -285,7 +284,7 @@ module _ (limit : ℕ) where
         typed_item_goes true first us _ _ s t (typed_function_goes false true first at left right start end text us vs ws params body s t h k)
     plain_function _ at left right start end text _ vs ws params body s (gr.IsResult.void void) h k = void_function_goes false void at left right start end text vs ws params body s h k
 
-    function_goes : (b : Bool) (result : Kind3) (at left right start end : Spot) (text : ArrayString) (ts us vs ws : List Bounded) (params : List Parameter) (body : List Stmt) (s : List Tok)
+    function_goes : (b : Bool) (result : Kind3) (at left right start end : Spot) (text : List ℕ) (ts us vs ws : List Bounded) (params : List Parameter) (body : List Stmt) (s : List Tok)
         → IsPrivate ts b → IsResult us result → AreParameters vs params → Body zero ws body
         → Goes limit (p.item_inside limit levels) (ts ++ (us ++ (g.name at text ∷ rest_tokens vs ws left right start end))) s (item.Function b result text params body at.place)
     function_goes _ result at left right start end text _ us vs ws params body s gr.IsPrivate.nothing r h k = plain_function result at left right start end text us vs ws params body s r h k

@@ -5,8 +5,8 @@ use Rattle.c_token.specs.declared.signs.Sign.TheVariants as signs
 use Rattle.c_token.specs.declared.words.Word.{Word}
 use Rattle.c_grammar.specs.BoundedTokens as g
 use Rattle.c_grammar.specs.BoundedTokens.{Tok, Spot, Bounded, tok_of, bounded, bounded_all}
-use Rattle.c_parser.specs.Parser.{Outcome, done, stop, Parser, follow, ◌>>=◌, gives, is_some_sign, is_some_word, is_at_sign, is_at_word, prepend, many, all, behind_comma, separated}
-use Rattle.c_parser.proofs.Holds.{Seq, seq, Mapped, mapped, Alike, Holds, Always, Full, mono, bind, bind_known, mapping, mapped_at, same_parser, dispatch, head_kind, Nothing, nothing, giving, IsSign, is_sign, signing, Many, none_left, one_more, Takes, strict}
+use Rattle.c_descent.specs.ListParser.{Outcome, done, stop, Parser, follow, ◌>>=◌, gives, is_some_sign, is_some_word, is_at_sign, is_at_word, prepend, many, all, after_comma, separated}
+use Rattle.c_descent.proofs.Holds.{Seq, seq, Mapped, mapped, Alike, Holds, Always, Full, mono, bind, bind_known, mapping, mapped_at, same_parser, dispatch, head_kind, Nothing, nothing, giving, IsSign, is_sign, signing, Many, none_left, one_more, Takes, strict}
 
 pub head_sign : (x : Sign) (s t : List Tok) → Alike s t → is_at_sign x s ≡ is_at_sign x t
 unfolding is_at_sign
@@ -18,7 +18,7 @@ head_word x s t a = ap (is_some_word x) (head_kind s t a)
 
 module _ (limit : ℕ) {A : Type 0} (follows : List Tok → Bool) {p : Parser A} {R : List Bounded → A → Type 0}
     (head : (s t : List Tok) → Alike s t → follows s ≡ follows t) (always : Always limit p R) (takes : Takes R) where
-  -- the first part, where one follows, and those behind it
+  -- the first part, where one follows, and those after it
   unfoldable pub turn : Bool → (A → Parser (List A)) → Parser (List A)
   turn true rest = p >>= rest
   turn false rest = gives []
@@ -57,25 +57,25 @@ module _ (limit : ℕ) {A : Type 0} (follows : List Tok → Bool) {p : Parser A}
   enough (suc n) (suc m) s a b = many_turn n s ∙ turns n m s a b (enough n m) (follows s) ∙ sym (many_turn m s)
 
   -- the whole list, as its first part and the rest
-  unfoldable pub behind_one : A → Parser (List A)
-  behind_one x left = follow (all follows p left) (λ xs. gives (x ∷ xs))
+  unfoldable pub after_one : A → Parser (List A)
+  after_one x left = follow (all follows p left) (λ xs. gives (x ∷ xs))
 
   prepended : (x : A) (o : Outcome (List A)) → prepend (x ∷ []) o ≡ follow o (λ xs. gives (x ∷ xs))
   prepended x (done xs left) = refl
   prepended x (stop reason left) = refl
 
-  all_rest : (s : List Tok) (o : Outcome A) → p s ≡ o → follow o (with_rest (length s)) ≡ follow o behind_one
-  unfolding with_rest behind_one all Agree
+  all_rest : (s : List Tok) (o : Outcome A) → p s ≡ o → follow o (with_rest (length s)) ≡ follow o after_one
+  unfolding with_rest after_one all Agree
   all_rest s (done x left) e = ap (prepend (x ∷ [])) (enough (length s) (suc (length left)) left (strict limit takes always s x left e) (omega arith))
       ∙ prepended x (many (suc (length left)) follows p left)
   all_rest s (stop reason left) e = refl
 
-  all_turned : (s : List Tok) (b : Bool) → turn b (with_rest (length s)) s ≡ turn b behind_one s
+  all_turned : (s : List Tok) (b : Bool) → turn b (with_rest (length s)) s ≡ turn b after_one s
   unfolding turn
   all_turned s true = all_rest s (p s) refl
   all_turned s false = refl
 
-  pub all_turn : (s : List Tok) → all follows p s ≡ turn (follows s) behind_one s
+  pub all_turn : (s : List Tok) → all follows p s ≡ turn (follows s) after_one s
   unfolding all
   all_turn s = many_turn (length s) s ∙ all_turned s (follows s)
 
@@ -83,9 +83,9 @@ module _ (limit : ℕ) {A : Type 0} (follows : List Tok → Bool) {p : Parser A}
   Behind : A → List Bounded → List A → Type 0
   Behind x = Mapped (Many R) (λ xs. x ∷ xs)
 
-  behind_full : (x : A) → Full (Behind x)
+  after_name_full : (x : A) → Full (Behind x)
   unfolding Behind
-  behind_full x = ([], x ∷ [], mapped [] none_left refl)
+  after_name_full x = ([], x ∷ [], mapped [] none_left refl)
 
   put_before : {x : A} {zs : List A} (ts us : List Bounded) → R ts x → Behind x us zs → Many R (ts ++ us) zs
   unfolding Behind
@@ -101,21 +101,21 @@ module _ (limit : ℕ) {A : Type 0} (follows : List Tok → Bool) {p : Parser A}
   Upto n = (s : List Tok) → length s < n → Holds limit (all follows p) (Many R) s (all follows p s)
 
   known : (n : ℕ) → Upto n → (s : List Tok) → length s < suc n → (x : A) (rest : List Tok) → p s ≡ done x rest
-      → Holds limit (behind_one x) (Behind x) rest (behind_one x rest)
-  unfolding behind_one Behind Upto
+      → Holds limit (after_one x) (Behind x) rest (after_one x rest)
+  unfolding after_one Behind Upto
   known n k s l x rest e = mapped_at limit (λ xs. x ∷ xs) (k rest (omega (arith, strict limit takes always s x rest e, l)))
 
-  each : (n : ℕ) → Upto n → (s : List Tok) → length s < suc n → (b : Bool) → Holds limit (turn b behind_one) (Many R) s (turn b behind_one s)
+  each : (n : ℕ) → Upto n → (s : List Tok) → length s < suc n → (b : Bool) → Holds limit (turn b after_one) (Many R) s (turn b after_one s)
   unfolding turn
-  each n k s l true = mono limit joined (bind_known limit behind_one s (p s) refl behind_full (always s) (known n k s l))
+  each n k s l true = mono limit joined (bind_known limit after_one s (p s) refl after_name_full (always s) (known n k s l))
   each n k s l false = mono limit empty (giving limit [] s)
 
   listing_upto : (n : ℕ) → Upto n
   unfolding Upto
   listing_upto zero s l = absurd (omega (arith, l))
   listing_upto (suc n) s l = subst (λ o. Holds limit (all follows p) (Many R) s o) (sym (all_turn s))
-      (same_parser limit {p = λ t. turn (follows t) behind_one t} all_turn
-      (dispatch limit follows (λ b. turn b behind_one) head s (λ b e. each n (listing_upto n) s l b)))
+      (same_parser limit {p = λ t. turn (follows t) after_one t} all_turn
+      (dispatch limit follows (λ b. turn b after_one) head s (λ b e. each n (listing_upto n) s l b)))
 
   pub listing : Always limit (all follows p) (Many R)
   unfolding Upto
@@ -130,14 +130,14 @@ module _ (limit : ℕ) {A : Type 0} {p : Parser A} {R : List Bounded → A → T
   pub comma_takes : Takes (Comma R)
   comma_takes _ _ (seq ts us (is_sign at) r) = omega arith
 
-  pub after_comma : Always limit (behind_comma p) (Comma R)
-  unfolding behind_comma
-  after_comma = bind limit (λ _. p) (λ _. full) (signing limit signs.Comma) (λ _. always)
+  pub comma_always : Always limit (after_comma p) (Comma R)
+  unfolding after_comma
+  comma_always = bind limit (λ _. p) (λ _. full) (signing limit signs.Comma) (λ _. always)
 
   pub separating : Always limit (separated p) (Seq R (λ x. Mapped (Many (Comma R)) (λ xs. x ∷ xs)))
   unfolding separated
   separating = bind limit _ (λ x. ([], x ∷ [], mapped [] none_left refl)) always
-      (λ x. mapping limit (λ xs. x ∷ xs) (listing limit (is_at_sign signs.Comma) (head_sign signs.Comma) after_comma comma_takes))
+      (λ x. mapping limit (λ xs. x ∷ xs) (listing limit (is_at_sign signs.Comma) (head_sign signs.Comma) comma_always comma_takes))
 
 -- what they make, where a list of them is made so
 module _ {A : Type 0} {R : List Bounded → A → Type 0} (L : List Bounded → List A → Type 0)

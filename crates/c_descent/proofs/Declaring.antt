@@ -18,20 +18,20 @@ use Rattle.c_grammar.specs.StatementGrammar as gs
 use Rattle.c_grammar.specs.StatementGrammar.{IsType, Body}
 use Rattle.c_grammar.specs.ProgramGrammar as gr
 use Rattle.c_grammar.specs.ProgramGrammar.{IsStorage, IsLength, IsValue, AreValues, AreInitial, IsResult, IsParameter, AreListed, AreParameters, IsPrivate, IsItem, AreItems, IsProgram}
-use Rattle.c_parser.specs.declared.cursor.Named.{Named}
-use Rattle.c_parser.specs.declared.statement.Braces.{Braces}
-use Rattle.c_reader.specs.declared.item.Heading.{Heading}
-use Rattle.c_reader.specs.declared.item.Heading.TheVariants as heading
-use Rattle.c_reader.specs.declared.item.Given.{Given}
-use Rattle.c_parser.specs.Parser.{is_left, separated}
-use Rattle.c_parser.specs.Statements as st
-use Rattle.c_reader.specs.Programs as p
-use Rattle.c_reader.specs.Programs.{heading_of, heading_at, storage_of, result_of}
-use Rattle.c_parser.proofs.Holds.{Seq, seq, Mapped, mapped, Alike, Holds, Always, Full, mono, bind, mapping, dispatch, head_kind, Nothing, nothing, giving, free, no_text, full_seq, full_mapped, full_sign, full_word, full_name, full_number, Takes, Many, none_left, one_more, IsSign, is_sign, signing, IsWord, is_word, wording, IsName, is_name, naming, IsNumber, is_number, numbering, refusing}
-use Rattle.c_parser.proofs.Lists.{listing, separating, separated_made, Comma}
-use Rattle.c_parser.proofs.Expressing.{if_sign}
-use Rattle.c_parser.proofs.Stating.{if_word, Typed, typed, type_at, full_type}
-use Rattle.c_parser.proofs.Bodies.{Braced, braced_at, full_body, statement_at}
+use Rattle.c_descent.specs.declared.parts.Named.{Named}
+use Rattle.c_descent.specs.declared.parts.Braces.{Braces}
+use Rattle.c_descent.specs.declared.parts.Heading.{Heading}
+use Rattle.c_descent.specs.declared.parts.Heading.TheVariants as heading
+use Rattle.c_descent.specs.declared.parts.Given.{Given}
+use Rattle.c_descent.specs.ListParser.{is_left, separated}
+use Rattle.c_descent.specs.StatementParser as st
+use Rattle.c_descent.specs.ProgramParser as p
+use Rattle.c_descent.specs.ProgramParser.{heading_of, heading_at, storage_of, result_of}
+use Rattle.c_descent.proofs.Holds.{Seq, seq, Mapped, mapped, Alike, Holds, Always, Full, mono, bind, mapping, dispatch, head_kind, Nothing, nothing, giving, free, no_text, full_seq, full_mapped, full_sign, full_word, full_name, full_number, Takes, Many, none_left, one_more, IsSign, is_sign, signing, IsWord, is_word, wording, IsName, is_name, naming, IsNumber, is_number, numbering, refusing}
+use Rattle.c_descent.proofs.Lists.{listing, separating, separated_made, Comma}
+use Rattle.c_descent.proofs.Expressing.{if_sign}
+use Rattle.c_descent.proofs.Stating.{if_word, Typed, typed, type_at, full_type}
+use Rattle.c_descent.proofs.Bodies.{Braced, braced_at, full_body, statement_at}
 
 -- a type at whatever spot
 abbrev Any : Spot → Type 0
@@ -66,7 +66,7 @@ module _ (limit : ℕ) where
   abbrev named : Named → ℕ → Bounded
   named found bound = g.name (record { place = found.token; bound = bound }) found.name
 
-  -- what stands behind the name of an object
+  -- what stands after the name of an object
   ObjectRest : Storage → Bool → Named → List Bounded → Item → Type 0
   ObjectRest class u found ts x = (pre us : List Bounded) (first : Spot) (bound : ℕ) → IsStorage pre class → IsType first us u → IsItem (pre ++ (us ++ (named found bound ∷ ts))) x
 
@@ -269,7 +269,7 @@ module _ (limit : ℕ) where
     abbrev Block : List Bounded → Braces → Type 0
     Block = Braced limit levels 0 e (statement_at limit levels 0 e) (IsSign signs.LeftBrace)
 
-    -- what stands behind the name of a function
+    -- what stands after the name of a function
     FunctionRest : Bool → Kind3 → Named → List Bounded → Item → Type 0
     FunctionRest b result found ts x = (pre us : List Bounded) (bound : ℕ) → IsPrivate pre b → IsResult us result → IsItem (pre ++ (us ++ (named found bound ∷ ts))) x
 
@@ -302,7 +302,7 @@ module _ (limit : ℕ) where
           (full_seq full_parameters (λ params. full_mapped (λ block. item.Function b result found.name params block.body found.token) full_block)).2,
     )
 
-    -- a declaration behind `__private` or nothing
+    -- a declaration after `__private` or nothing
     Declared : Bool → List Bounded → Item → Type 0
     Declared b ts x = (pre : List Bounded) → Pre b pre → IsItem (pre ++ ts) x
 

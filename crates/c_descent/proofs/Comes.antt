@@ -3,10 +3,9 @@ use Rattle.std.proofs.Common.{◌≡◌, ℕ, ◌<◌, Bool, true, List, [], ◌
 use Rattle.std.proofs.lemmas.List.{map-append}
 use Rattle.c_token.specs.declared.signs.Sign.{Sign}
 use Rattle.c_token.specs.declared.words.Word.{Word}
-use Rattle.arrayvec.specs.ArrayString.{ArrayString}
 use Rattle.c_grammar.specs.BoundedTokens as g
 use Rattle.c_grammar.specs.BoundedTokens.{Tok, Spot, Bounded, tok_of, toks_of}
-use Rattle.c_parser.specs.Parser.{deep, Outcome, done, stop, Parser, follow, gives, is_at_sign, is_at_word, passed, sign, word, name, number}
+use Rattle.c_descent.specs.ListParser.{deep, Outcome, done, stop, Parser, follow, gives, is_at_sign, is_at_word, passed, sign, word, name, number}
 use Rattle.c_token.specs.contracts.signs.SignPartialEq.TheImpl as sign_eq
 use Rattle.c_token.specs.contracts.words.WordPartialEq.TheImpl as word_eq
 
@@ -72,7 +71,7 @@ pub word_goes : (limit : ℕ) (x : Word) (at : Spot) (rest : List Tok) → Goes 
 unfolding word is_at_word
 word_goes limit x at rest = subst (λ b. To limit (g.word at x ∷ []) rest (done at.place rest) (passed b (tok_of (g.word at x) ∷ rest))) (sym (word_same x)) arrives
 
-pub name_goes : (limit : ℕ) (text : ArrayString) (at : Spot) (rest : List Tok) → Goes limit name (g.name at text ∷ []) rest (record { name = text; token = at.place })
+pub name_goes : (limit : ℕ) (text : List ℕ) (at : Spot) (rest : List Tok) → Goes limit name (g.name at text ∷ []) rest (record { name = text; token = at.place })
 unfolding name
 name_goes limit text at rest = arrives
 

@@ -1,6 +1,5 @@
 -- Locals and simple statements.
 use Rattle.std.proofs.Common.{◌≡◌, ℕ, suc, ◌+◌, ◌<◌, Bool, true, false, cond, List, [], ◌∷◌, ◌++◌, Option, Some, None, sym, ap, ◌∙◌, subst, arith, append_assoc}
-use Rattle.arrayvec.specs.ArrayString.{ArrayString}
 use Rattle.c_token.specs.declared.signs.Sign.TheVariants as signs
 use Rattle.c_token.specs.declared.words.Word.{Word}
 use Rattle.c_token.specs.declared.words.Word.TheVariants as words
@@ -12,17 +11,17 @@ use Rattle.c_grammar.specs.BoundedTokens.{Tok, Spot, Bounded, tok_of, bounded, b
 use Rattle.c_grammar.specs.ExpressionGrammar.{Expression, Arguments}
 use Rattle.c_grammar.specs.StatementGrammar as gr
 use Rattle.c_grammar.specs.StatementGrammar.{IsType, Local, Simple, Maybe, Statement}
-use Rattle.c_parser.specs.declared.cursor.Named.{Named}
-use Rattle.c_parser.specs.declared.statement.Plain.{Plain}
-use Rattle.c_parser.specs.declared.statement.Plain.TheVariants as plain
-use Rattle.c_parser.specs.Parser.{Parser, ◌>>=◌, gives, is_some_word, is_at_sign, is_at_word, word}
-use Rattle.c_parser.specs.Expressions.{inside}
-use Rattle.c_parser.specs.Statements as p
-use Rattle.c_parser.specs.Statements.{start_of, start_at, plain_of, plain_at}
-use Rattle.c_parser.proofs.Holds.{Seq, seq, Mapped, mapped, Alike, Holds, Always, Full, mono, bind, bind_at, mapping, mapped_at, dispatch, head_kind, Nothing, nothing, giving, free, full_seq, full_mapped, full_sign, full_name, OpensSign, opens_sign, OpensWord, opens_word, OpensName, opens_name, above, above_ok, opening_sign, opening_word, opening_name, IsSign, is_sign, signing, IsWord, is_word, wording, IsName, is_name, naming, some_word, passed_at, refusing}
-use Rattle.c_parser.proofs.Lists.{head_sign, head_word}
-use Rattle.c_parser.proofs.Chains.{zero_expression}
-use Rattle.c_parser.proofs.Expressing.{Inner, inside_at, at_sign, if_sign, Subscripted, subscript_at, arguments_at, expression_at}
+use Rattle.c_descent.specs.declared.parts.Named.{Named}
+use Rattle.c_descent.specs.declared.parts.Plain.{Plain}
+use Rattle.c_descent.specs.declared.parts.Plain.TheVariants as plain
+use Rattle.c_descent.specs.ListParser.{Parser, ◌>>=◌, gives, is_some_word, is_at_sign, is_at_word, word}
+use Rattle.c_descent.specs.ExpressionParser.{inside}
+use Rattle.c_descent.specs.StatementParser as p
+use Rattle.c_descent.specs.StatementParser.{start_of, start_at, plain_of, plain_at}
+use Rattle.c_descent.proofs.Holds.{Seq, seq, Mapped, mapped, Alike, Holds, Always, Full, mono, bind, bind_at, mapping, mapped_at, dispatch, head_kind, Nothing, nothing, giving, free, full_seq, full_mapped, full_sign, full_name, OpensSign, opens_sign, OpensWord, opens_word, OpensName, opens_name, above, above_ok, opening_sign, opening_word, opening_name, IsSign, is_sign, signing, IsWord, is_word, wording, IsName, is_name, naming, some_word, passed_at, refusing}
+use Rattle.c_descent.proofs.Lists.{head_sign, head_word}
+use Rattle.c_descent.proofs.Chains.{zero_expression}
+use Rattle.c_descent.proofs.Expressing.{Inner, inside_at, at_sign, if_sign, Subscripted, subscript_at, arguments_at, expression_at}
 
 -- a test of the first token's word
 module _ (limit : ℕ) {A : Type 0} (x : Word) (p q : Parser A) where
@@ -162,7 +161,7 @@ module _ (limit n l : ℕ) (e : suc l + n ≡ limit) where
   pub LocalParts : List Bounded → Stmt → Type 0
   LocalParts = Seq (Typed Above) (λ u. Seq IsName (λ found. Mapped (OptValue (suc l)) (λ value. stmt.Local u found.name value found.token)))
 
-  local_value : (u : Bool) (first at : Spot) (text : ArrayString) → Above first → (ts : List Bounded) → IsType first ts u → (us : List Bounded) (v : Option Expr)
+  local_value : (u : Bool) (first at : Spot) (text : List ℕ) → Above first → (ts : List Bounded) → IsType first ts u → (us : List Bounded) (v : Option Expr)
       → OptValue (suc l) us v → Local l (ts ++ g.name at text ∷ us) (stmt.Local u text v at.place)
   unfolding Above
   local_value u first at text h ts t _ _ no_value = gr.plain first at text h t
@@ -178,7 +177,7 @@ module _ (limit n l : ℕ) (e : suc l + n ≡ limit) where
   local_inside_at = bind limit _ (λ u. full_seq full_name (λ found. full_mapped _ ([], None, no_value))) local_type
       (λ u. bind limit _ (λ found. full_mapped _ ([], None, no_value)) (naming limit) (λ found. mapping limit _ (optional_value_at limit n (suc l) e)))
 
-  -- what stands behind a name makes a statement of it
+  -- what stands after a name makes a statement of it
   After : Named → List Bounded → Stmt → Type 0
   After found ts x = (bound : ℕ) → l < bound → Simple l (g.name (record { place = found.token; bound = bound }) found.name ∷ ts) x
 
@@ -217,9 +216,9 @@ module _ (limit n l : ℕ) (e : suc l + n ≡ limit) where
   inner : Inner limit (suc l) (inside limit n)
   inner = inside_at limit n (suc l) e
 
-  behind_at : (found : Named) → Always limit (p.behind_name limit n found) (After found)
-  unfolding p.behind_name p.element_assigned p.call
-  behind_at found s = if_sign limit signs.LeftBracket _ _ s
+  after_name_holds : (found : Named) → Always limit (p.after_name limit n found) (After found)
+  unfolding p.after_name p.element_assigned p.call
+  after_name_holds found s = if_sign limit signs.LeftBracket _ _ s
       (λ q. mono limit (element_made found) (bind_at limit _ (λ at. full_assigned found (Some at.index)) (λ at. assigned_at found (Some at.index))
       (subscript_at limit (suc l) (inside limit n) inner s (at_sign signs.LeftBracket s q))))
       (λ q. if_sign limit signs.LeftParenthesis _ _ s
@@ -236,7 +235,7 @@ module _ (limit n l : ℕ) (e : suc l + n ≡ limit) where
 
   named_at : Always limit (p.named limit n) (Simple l)
   unfolding p.named
-  named_at s = mono limit named_made (bind limit _ full_after (opening_name limit l below) behind_at s)
+  named_at s = mono limit named_made (bind limit _ full_after (opening_name limit l below) after_name_holds s)
 
   release_made : (ts : List Bounded) (x : Stmt) → Seq (OpensWord l words.Release) (λ place. Mapped (Condition (suc l)) (λ value. stmt.Release value place)) ts x → Simple l ts x
   release_made _ x (seq _ _ (opens_word at h) (mapped _ (condition {ts} left right v) q)) =
@@ -278,7 +277,7 @@ module _ (limit n l : ℕ) (e : suc l + n ≡ limit) where
       each plain.Continue = refusing limit full_simple s
       each plain.Other = refusing limit full_simple s
 
-  -- a simple statement, or `return`, `break` or `continue`, makes a statement with the sign behind it
+  -- a simple statement, or `return`, `break` or `continue`, makes a statement with the sign after it
   Ended : List Bounded → Stmt → Type 0
   Ended ts x = (end : Spot) → Statement l (ts ++ g.sign end signs.Semicolon ∷ []) x false
 

@@ -1,28 +1,23 @@
--- What the answer of a whole text says of its tokens.
-use Rattle.std.proofs.Common.{◌≡◌, ℕ, zero, suc, ◌+◌, ◌<◌, ◌≤◌, ◌⊎◌, inl, inr, length, take, drop, Bool, true, false, List, [], ◌∷◌, ◌++◌, Result, Ok, Err, IfOk, IfErr, refl, sym, ap, ◌∙◌, subst, true≢false, arith, append_assoc, append-nil, length-append, take-append-drop}
+-- What the outcome of a whole list of tokens says of them.
+use Rattle.std.proofs.Common.{◌≡◌, ℕ, zero, suc, ◌+◌, ◌<◌, ◌≤◌, ◌⊎◌, inl, inr, length, take, drop, Bool, true, false, List, [], ◌∷◌, ◌++◌, refl, sym, ap, ◌∙◌, subst, true≢false, arith, append_assoc, append-nil, length-append, take-append-drop}
 use Rattle.std.proofs.lemmas.List.{map-append}
 use Rattle.c_token.specs.declared.kinds.Kind.{Kind}
 use Rattle.c_grammar.specs.declared.item.Program.{Program}
 use Rattle.c_grammar.specs.BoundedTokens.{Tok, Bounded, tok_of, toks_of, bounded_kinds, numbered, bounded_all}
 use Rattle.c_grammar.specs.ProgramGrammar.{IsProgram}
-use Rattle.c_grammar.specs.TokenPrograms.{AreProgram, AreLimited, IsUnlimitedProgram, BeginsWithin, Begins, IsExpectedAt, IsDeepAt, IsShallowBefore}
+use Rattle.c_grammar.specs.TokenPrograms.{limit, AreProgram, AreLimited, IsUnlimitedProgram, BeginsWithin, Begins, IsExpectedAt, IsDeepAt, IsShallowBefore}
 use Rattle.c_grammar.proofs.Alike.{AllAlike, none_left, one_more}
-use Rattle.c_grammar.proofs.AlikeKinds.{alike, kinds-numbered}
+use Rattle.c_grammar.proofs.AlikeKinds.{kind_alike, kinds-numbered}
 use Rattle.c_grammar.proofs.AlikePrograms.{same_program}
-use Rattle.c_reader.specs.declared.error.SyntaxError.{SyntaxError}
-use Rattle.c_reader.specs.declared.error.SyntaxError.TheVariants as error
-use Rattle.c_parser.specs.Parser.{Reason, expected, deep, exhausted, Outcome, done, stop}
-use Rattle.c_reader.specs.Programs.{program}
-use Rattle.c_parser.specs.Reads.{place_or}
-use Rattle.c_reader.specs.Reads.{Answers}
-use Rattle.c_reader.specs.Refusals.{IsRefusedAs, OneProgram}
-use Rattle.c_parser.proofs.Holds.{Alike, Opens, Holds, reaches, stops, Stops}
-use Rattle.c_parser.proofs.Comes.{To, arrives, late}
-use Rattle.c_reader.proofs.Declaring.{program_at}
-use Rattle.c_reader.proofs.Recognising.{program_goes}
+use Rattle.c_descent.specs.ListParser.{Reason, expected, deep, exhausted, Outcome, done, stop, place_or}
+use Rattle.c_descent.specs.ProgramParser.{program}
+use Rattle.c_descent.proofs.Holds.{Alike, Opens, Holds, reaches, stops, Stops}
+use Rattle.c_descent.proofs.Comes.{To, arrives, late}
+use Rattle.c_descent.proofs.Declaring.{program_at}
+use Rattle.c_descent.proofs.Recognising.{program_goes}
 
 abbrev read : List Tok → Outcome Program
-read s = program 64 64 s
+read s = program limit limit s
 
 -- tokens numbered anew
 replaced : ℕ → List Bounded → List Bounded
@@ -32,7 +27,7 @@ replaced n (t ∷ ts) = record { spot = record { place = n; bound = t.spot.bound
 alike_replaced : (n : ℕ) (ts : List Bounded) → AllAlike ts (replaced n ts)
 unfolding replaced
 alike_replaced n [] = none_left
-alike_replaced n (t ∷ ts) = one_more (alike t.spot (record { place = n; bound = t.spot.bound }) t.kind t.kind (omega arith) refl) (alike_replaced (suc n) ts)
+alike_replaced n (t ∷ ts) = one_more (kind_alike t.spot (record { place = n; bound = t.spot.bound }) t.kind t.kind (omega arith) refl) (alike_replaced (suc n) ts)
 
 toks_replaced : (n : ℕ) (ts : List Bounded) → toks_of (replaced n ts) ≡ numbered n (bounded_kinds ts)
 unfolding replaced
@@ -45,7 +40,7 @@ limited_replaced zero n ts h = tt
 limited_replaced (suc m) n [] h = tt
 limited_replaced (suc m) n (t ∷ ts) h = (h.0, limited_replaced m (suc n) ts h.1)
 
-limited_at : (before : List Bounded) (t : Bounded) (after : List Bounded) → AreLimited (take (suc (length before)) (before ++ t ∷ after)) → t.spot.bound ≤ 64
+limited_at : (before : List Bounded) (t : Bounded) (after : List Bounded) → AreLimited (take (suc (length before)) (before ++ t ∷ after)) → t.spot.bound ≤ limit
 limited_at [] t after h = h.0
 limited_at (x ∷ before) t after h = limited_at before t after h.1
 
@@ -146,13 +141,13 @@ record Late (tokens : List Bounded) : Type 0 where
   t : Bounded
   after : List Bounded
   parts : replaced 0 tokens ≡ before ++ t ∷ after
-  above : 64 < t.spot.bound
+  above : limit < t.spot.bound
   outcome : read (numbered 0 (bounded_kinds tokens)) ≡ stop deep (tok_of t ∷ toks_of after)
 
 Understood : List Bounded → Type 0
 Understood tokens = ((p : Program) × (read (numbered 0 (bounded_kinds tokens)) ≡ done p [])) ⊎ Late tokens
 
-to_cases : (tokens : List Bounded) (p : Program) (o : Outcome Program) → read (numbered 0 (bounded_kinds tokens)) ≡ o → To 64 (replaced 0 tokens) [] (done p []) o → Understood tokens
+to_cases : (tokens : List Bounded) (p : Program) (o : Outcome Program) → read (numbered 0 (bounded_kinds tokens)) ≡ o → To limit (replaced 0 tokens) [] (done p []) o → Understood tokens
 unfolding Understood
 to_cases tokens p o e arrives = inl (p, e)
 to_cases tokens p o e (late before t after q h) = inr record { before = before; t = t; after = after; parts = q; above = h; outcome = e ∙ ap (λ s. stop deep (tok_of t ∷ s)) (append-nil (toks_of after)) }
@@ -162,7 +157,7 @@ understood tokens p h =
     let q = same_program h (replaced 0 tokens) (alike_replaced 0 tokens) in
     to_cases tokens q.0 (read (toks_of (replaced 0 tokens) ++ []))
     (ap read (sym (append-nil (toks_of (replaced 0 tokens)) ∙ toks_replaced 0 tokens)))
-    (program_goes 64 64 refl (replaced 0 tokens) q.0 q.1.0)
+    (program_goes limit limit refl (replaced 0 tokens) q.0 q.1.0)
 
 -- where reading stops
 record Stopped (reason : Reason) (kinds : List Kind) (rest : List Tok) : Type 0 where
@@ -172,11 +167,11 @@ record Stopped (reason : Reason) (kinds : List Kind) (rest : List Tok) : Type 0 
   back : rest ≡ numbered (0 + length js) ks
   more : List Bounded
   tree : Program
-  means : IsProgram (bounded_all 64 (numbered 0 js) ++ more) tree
+  means : IsProgram (bounded_all limit (numbered 0 js) ++ more) tree
   opens : Opens reason more (numbered (0 + length js) ks)
   again : (other : List Tok) → Alike (numbered (0 + length js) ks) other → read (numbered 0 js ++ other) ≡ stop reason other
 
-stopped_from : (reason : Reason) (kinds : List Kind) (rest : List Tok) → Stops 64 (program 64 64) IsProgram (numbered 0 kinds) reason rest → Stopped reason kinds rest
+stopped_from : (reason : Reason) (kinds : List Kind) (rest : List Tok) → Stops limit (program limit limit) IsProgram (numbered 0 kinds) reason rest → Stopped reason kinds rest
 stopped_from reason kinds rest h =
     let s = split_numbered 0 kinds h.used rest h.split in
     record {
@@ -186,63 +181,63 @@ stopped_from reason kinds rest h =
       back = s.back;
       more = h.more;
       tree = h.tree;
-      means = subst (λ used. IsProgram (bounded_all 64 used ++ h.more) h.tree) s.front h.means;
+      means = subst (λ used. IsProgram (bounded_all limit used ++ h.more) h.tree) s.front h.means;
       opens = subst (λ r. Opens reason h.more r) s.back h.opens;
       again = λ other a. ap (λ used. read (used ++ other)) (sym s.front) ∙ h.again other (subst (λ r. Alike r other) (sym s.back) a);
     }
 
-stopped_go : (reason : Reason) (kinds : List Kind) (rest : List Tok) → Holds 64 (program 64 64) IsProgram (numbered 0 kinds) (stop reason rest) → Stopped reason kinds rest
+stopped_go : (reason : Reason) (kinds : List Kind) (rest : List Tok) → Holds limit (program limit limit) IsProgram (numbered 0 kinds) (stop reason rest) → Stopped reason kinds rest
 stopped_go reason kinds rest (stops h) = stopped_from reason kinds rest h
 
 stopped : (reason : Reason) (kinds : List Kind) (rest : List Tok) → read (numbered 0 kinds) ≡ stop reason rest → Stopped reason kinds rest
-stopped reason kinds rest e = stopped_go reason kinds rest (subst (λ o. Holds 64 (program 64 64) IsProgram (numbered 0 kinds) o) e (program_at 64 64 refl (numbered 0 kinds)))
+stopped reason kinds rest e = stopped_go reason kinds rest (subst (λ o. Holds limit (program limit limit) IsProgram (numbered 0 kinds) o) e (program_at limit limit refl (numbered 0 kinds)))
 
-reached_go : (kinds : List Kind) (p : Program) → Holds 64 (program 64 64) IsProgram (numbered 0 kinds) (done p []) → AreProgram kinds p
-reached_go kinds p (reaches h) = subst (λ used. IsProgram (bounded_all 64 used) p) (sym (h.split ∙ append-nil h.used)) h.means
+reached_go : (kinds : List Kind) (p : Program) → Holds limit (program limit limit) IsProgram (numbered 0 kinds) (done p []) → AreProgram kinds p
+reached_go kinds p (reaches h) = subst (λ used. IsProgram (bounded_all limit used) p) (sym (h.split ∙ append-nil h.used)) h.means
 
 -- what is read is the program of the tokens
 pub reads : (kinds : List Kind) (p : Program) → read (numbered 0 kinds) ≡ done p [] → AreProgram kinds p
-reads kinds p e = reached_go kinds p (subst (λ o. Holds 64 (program 64 64) IsProgram (numbered 0 kinds) o) e (program_at 64 64 refl (numbered 0 kinds)))
+reads kinds p e = reached_go kinds p (subst (λ o. Holds limit (program limit limit) IsProgram (numbered 0 kinds) o) e (program_at limit limit refl (numbered 0 kinds)))
 
 -- no token nests too deep in what keeps the limits
-no_late : (n : ℕ) (toks : List Tok) (before : List Bounded) (t : Bounded) (after : List Bounded) → bounded_all 64 toks ≡ before ++ t ∷ after → t.spot.bound ≡ 64
+no_late : (n : ℕ) (toks : List Tok) (before : List Bounded) (t : Bounded) (after : List Bounded) → bounded_all limit toks ≡ before ++ t ∷ after → t.spot.bound ≡ limit
 no_late n [] [] t after e = absurd (nil_cons t after e)
 no_late n [] (x ∷ before) t after e = absurd (nil_cons x (before ++ t ∷ after) e)
 no_late n (u ∷ toks) [] t after e = ap (λ t. t.spot.bound) (sym (heads _ t _ after e))
 no_late n (u ∷ toks) (x ∷ before) t after e = no_late n toks before t after (tails _ x _ _ e)
 
-toks_bounded : (toks : List Tok) → toks_of (bounded_all 64 toks) ≡ toks
+toks_bounded : (toks : List Tok) → toks_of (bounded_all limit toks) ≡ toks
 toks_bounded [] = refl
 toks_bounded (t ∷ toks) = ap (λ s. t ∷ s) (toks_bounded toks)
 
-read_go : (kinds : List Kind) (p : Program) (o : Outcome Program) → To 64 (bounded_all 64 (numbered 0 kinds)) [] (done p []) o → o ≡ done p []
+read_go : (kinds : List Kind) (p : Program) (o : Outcome Program) → To limit (bounded_all limit (numbered 0 kinds)) [] (done p []) o → o ≡ done p []
 read_go kinds p o arrives = refl
 read_go kinds p o (late before t after e h) = absurd (omega (arith, h, no_late 0 (numbered 0 kinds) before t after e))
 
 -- the program of the tokens is read
 pub is_read : (kinds : List Kind) (p : Program) → AreProgram kinds p → read (numbered 0 kinds) ≡ done p []
-is_read kinds p h = ap read (sym (append-nil (toks_of (bounded_all 64 (numbered 0 kinds))) ∙ toks_bounded (numbered 0 kinds)))
-    ∙ read_go kinds p (read (toks_of (bounded_all 64 (numbered 0 kinds)) ++ [])) (program_goes 64 64 refl (bounded_all 64 (numbered 0 kinds)) p h)
+is_read kinds p h = ap read (sym (append-nil (toks_of (bounded_all limit (numbered 0 kinds))) ∙ toks_bounded (numbered 0 kinds)))
+    ∙ read_go kinds p (read (toks_of (bounded_all limit (numbered 0 kinds)) ++ [])) (program_goes limit limit refl (bounded_all limit (numbered 0 kinds)) p h)
 
 same_program_of : (p q : Program) → done p [] ≡ done q [] → p ≡ q
 unfolding program_of
 same_program_of p q e = ap (program_of p) e
 
-pub one_program : OneProgram
+pub one_program : (kinds : List Kind) (p q : Program) → AreProgram kinds p → AreProgram kinds q → p ≡ q
 one_program kinds p q a b = same_program_of p q (sym (is_read kinds p a) ∙ is_read kinds q b)
 
 -- the beginning of what keeps the limits
-limited_front : (place : ℕ) (js : List Kind) (more : List Bounded) (n : ℕ) → n ≤ length js → AreLimited (take n (bounded_all 64 (numbered place js) ++ more))
+limited_front : (place : ℕ) (js : List Kind) (more : List Bounded) (n : ℕ) → n ≤ length js → AreLimited (take n (bounded_all limit (numbered place js) ++ more))
 limited_front place js more zero h = tt
 limited_front place [] more (suc n) h = absurd (omega (arith, h))
 limited_front place (j ∷ js) more (suc n) h = (omega arith, limited_front (suc place) js more n (omega (arith, h)))
 
-kinds_front : (js : List Kind) (more : List Bounded) → bounded_kinds (bounded_all 64 (numbered 0 js) ++ more) ≡ js ++ bounded_kinds more
-kinds_front js more = map-append (λ t. t.kind) (bounded_all 64 (numbered 0 js)) more ∙ ap (λ ks. ks ++ bounded_kinds more) (kinds-numbered 0 js)
+kinds_front : (js : List Kind) (more : List Bounded) → bounded_kinds (bounded_all limit (numbered 0 js) ++ more) ≡ js ++ bounded_kinds more
+kinds_front js more = map-append (λ t. t.kind) (bounded_all limit (numbered 0 js)) more ∙ ap (λ ks. ks ++ bounded_kinds more) (kinds-numbered 0 js)
 
-begins_front : (js : List Kind) (more : List Bounded) (tree : Program) → IsProgram (bounded_all 64 (numbered 0 js) ++ more) tree → (kept : ℕ) → kept ≤ length js → (n : ℕ) → BeginsWithin kept (take n js)
+begins_front : (js : List Kind) (more : List Bounded) (tree : Program) → IsProgram (bounded_all limit (numbered 0 js) ++ more) tree → (kept : ℕ) → kept ≤ length js → (n : ℕ) → BeginsWithin kept (take n js)
 begins_front js more tree h kept l n = (
-  bounded_all 64 (numbered 0 js) ++ more,
+  bounded_all limit (numbered 0 js) ++ more,
   tree,
   drop n js ++ bounded_kinds more,
   kinds_front js more ∙ ap (λ ks. ks ++ bounded_kinds more) (sym (take-append-drop n js)) ∙ append_assoc (take n js) (drop n js) (bounded_kinds more),
@@ -288,8 +283,8 @@ no_begin : (kinds : List Kind) (rest : List Tok) (s : Stopped expected kinds res
 no_begin kinds rest s x ks e kept b = not_expected b.0 (numbered (0 + length s.js) (x ∷ b.2))
     (ap (λ ks. read (numbered 0 ks)) (b.3 ∙ append_assoc s.js (x ∷ []) b.2) ∙ again_at expected kinds rest s x ks b.2 e) (understood b.0 b.1 b.5)
 
-begins_all : (js : List Kind) (more : List Bounded) (tree : Program) → IsProgram (bounded_all 64 (numbered 0 js) ++ more) tree → (kept : ℕ) → kept ≤ length js → BeginsWithin kept js
-begins_all js more tree h kept l = (bounded_all 64 (numbered 0 js) ++ more, tree, bounded_kinds more, kinds_front js more, limited_front 0 js more kept l, h)
+begins_all : (js : List Kind) (more : List Bounded) (tree : Program) → IsProgram (bounded_all limit (numbered 0 js) ++ more) tree → (kept : ℕ) → kept ≤ length js → BeginsWithin kept js
+begins_all js more tree h kept l = (bounded_all limit (numbered 0 js) ++ more, tree, bounded_kinds more, kinds_front js more, limited_front 0 js more kept l, h)
 
 expected_next : (kinds : List Kind) (rest : List Tok) (s : Stopped expected kinds rest) (x : Kind) (ks : List Kind) → s.ks ≡ x ∷ ks → IsExpectedAt kinds (length s.js)
 expected_next kinds rest s x ks e =
@@ -348,10 +343,10 @@ no_within : (kinds : List Kind) (rest : List Tok) (s : Stopped deep kinds rest) 
 no_within kinds rest s x ks e b = not_limited b.0 (length s.js) (numbered (suc (0 + length s.js)) b.2) (0 + length s.js) x (omega arith) b.4
     (ap (λ ks. read (numbered 0 ks)) (b.3 ∙ append_assoc s.js (x ∷ []) b.2) ∙ again_at deep kinds rest s x ks b.2 e) (understood b.0 b.1 b.5)
 
-begins_deep : (js : List Kind) (x : Kind) (ks : List Kind) (more : List Bounded) (tree : Program) → IsProgram (bounded_all 64 (numbered 0 js) ++ more) tree
+begins_deep : (js : List Kind) (x : Kind) (ks : List Kind) (more : List Bounded) (tree : Program) → IsProgram (bounded_all limit (numbered 0 js) ++ more) tree
     → Opens deep more (numbered (0 + length js) (x ∷ ks)) → BeginsWithin (length js) (js ++ x ∷ [])
 begins_deep js x ks (m ∷ more) tree h o = (
-  bounded_all 64 (numbered 0 js) ++ m ∷ more,
+  bounded_all limit (numbered 0 js) ++ m ∷ more,
   tree,
   bounded_kinds more,
   kinds_front js (m ∷ more) ∙ ap (λ k. js ++ k ∷ bounded_kinds more) (ap (λ t. t.kind) o) ∙ sym (append_assoc js (x ∷ []) (bounded_kinds more)),
@@ -382,11 +377,3 @@ pub refused_deep : (kinds : List Kind) (rest : List Tok) → read (numbered 0 ki
 refused_deep kinds rest e =
     let s = stopped deep kinds rest e in
     subst (λ k. IsDeepAt kinds k) (sym (place_stopped deep kinds rest s)) (deep_at kinds rest s s.ks refl)
-
--- what the answer of a whole text says
-pub answered : (kinds : List Kind) (r : Result Program SyntaxError) → Answers r (length kinds) (program 64 64 (numbered 0 kinds))
-    → IfOk r (AreProgram kinds) × IfErr r (IsRefusedAs kinds)
-answered kinds (Ok p) e = (reads kinds p e, tt)
-answered kinds (Err (error.Expected k)) e = (tt, subst (λ k. IsExpectedAt kinds k × IsShallowBefore kinds k) (sym e.2) (refused_expected kinds e.0 e.1))
-answered kinds (Err (error.Deep k)) e = (tt, subst (λ k. IsDeepAt kinds k) (sym e.2) (refused_deep kinds e.0 e.1))
-answered kinds (Err error.OutOfMemory) e = (tt, tt)

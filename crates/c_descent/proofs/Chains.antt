@@ -9,23 +9,20 @@ use Rattle.c_grammar.specs.declared.expr.Expr.{Expr}
 use Rattle.c_grammar.specs.declared.expr.Expr.TheVariants as expr
 use Rattle.c_grammar.specs.BoundedTokens as g
 use Rattle.c_grammar.specs.BoundedTokens.{Tok, Spot, Bounded, tok_of, bounded, bounded_all}
-use Rattle.c_grammar.specs.Precedence.{precedence as rank}
+use Rattle.c_grammar.specs.Precedence.{precedence}
 use Rattle.c_grammar.specs.ExpressionGrammar.{Expression, whole, Binary, alone, tighter, both, Unary, primary, literal}
-use Rattle.c_parser.specs.declared.expression.Grown.{Grown}
-use Rattle.c_parser.specs.Parser.{deep, Outcome, done, stop, Parser, follow, ◌>>=◌, gives, first_kind, sign}
-use Rattle.c_parser.specs.Expressions.{rank_of, operator_of, operator_at, joined, chain_with, chain, chained, binary}
-use Rattle.c_parser.proofs.Holds.{Seq, seq, Mapped, mapped, Alike, Holds, Always, Full, mono, bind, bind_known, mapping, same_parser, dispatch, head_kind, Nothing, nothing, giving, free, full_mapped, Takes, strict_of, OpensSign, opens_sign, above_at, above_ok, opening_sign, deep_first}
+use Rattle.c_descent.specs.declared.parts.Grown.{Grown}
+use Rattle.c_descent.specs.ListParser.{deep, Outcome, done, stop, Parser, follow, ◌>>=◌, gives, first_kind, sign}
+use Rattle.c_descent.specs.ExpressionParser.{operator_of, operator_at, joined, chain_with, chain, chained, binary}
+use Rattle.c_descent.proofs.Holds.{Seq, seq, Mapped, mapped, Alike, Holds, Always, Full, mono, bind, bind_known, mapping, same_parser, dispatch, head_kind, Nothing, nothing, giving, free, full_mapped, Takes, strict_of, OpensSign, opens_sign, above_at, above_ok, opening_sign, deep_first}
 
 -- an operator of this rank stands first
-pub operator_known : (k : ℕ) (o : Option Kind) (op : Sign) → operator_of k o ≡ Some op → (o ≡ Some (kinds.Sign op)) × (rank_of op ≡ k)
+pub operator_known : (k : ℕ) (o : Option Kind) (op : Sign) → operator_of k o ≡ Some op → (o ≡ Some (kinds.Sign op)) × (precedence op ≡ k)
 operator_known k (Some (kinds.Sign x)) op e = grind (arith, common_steps)
 operator_known k (Some (kinds.Word x)) op e = grind arith
 operator_known k (Some (kinds.Name x)) op e = grind arith
 operator_known k (Some (kinds.Number x u)) op e = grind arith
 operator_known k None op e = grind arith
-
-pub ranks : (op : Sign) → rank_of op ≡ rank op
-ranks op = grind arith
 
 pub head_operator : (k : ℕ) (s t : List Tok) → Alike s t → operator_at k s ≡ operator_at k t
 unfolding operator_at
@@ -56,7 +53,7 @@ pub full_operand : (l k used : ℕ) → Full (Operand l k used)
 full_operand l k used = (zero_token ∷ [], record { tree = zero_tree; used = used }, zero_binary l k used)
 
 module _ (limit l k : ℕ) {operand : ℕ → Parser Grown} (always : (used : ℕ) → Always limit (operand used) (Operand l k used)) where
-  -- what the tokens behind a left operand make of it
+  -- what the tokens after a left operand make of it
   abbrev pub Joins : Grown → List Bounded → Grown → Type 0
   Joins left ts x = (before : ℕ) (us : List Bounded) → Binary l (suc k) before us left.tree left.used → Binary l (suc k) before (us ++ ts) x.tree x.used
 
@@ -74,14 +71,14 @@ module _ (limit l k : ℕ) {operand : ℕ → Parser Grown} (always : (used : �
   unfolding Join
   join_takes op left _ _ (seq ts us (opens_sign at h) r) = omega arith
 
-  right_joins : (op : Sign) (left : Grown) (at : Spot) → rank op ≡ suc k → left.used < at.bound → (ts : List Bounded) (x : Grown)
+  right_joins : (op : Sign) (left : Grown) (at : Spot) → precedence op ≡ suc k → left.used < at.bound → (ts : List Bounded) (x : Grown)
       → Mapped (Operand l k (left.used + 1)) (made op left at.place) ts x → Joins left (g.sign at op ∷ ts) x
   unfolding made
   right_joins op left at e h ts x (mapped right r q) before us b =
       subst (λ x. Binary l (suc k) before (us ++ g.sign at op ∷ ts) x.tree x.used) (sym q)
       (both op at b e h (subst (λ n. Binary l k n ts right.tree right.used) (omega arith) r))
 
-  join_joins : (op : Sign) (left : Grown) → rank op ≡ suc k → (ts : List Bounded) (x : Grown) → Join op left ts x → Joins left ts x
+  join_joins : (op : Sign) (left : Grown) → precedence op ≡ suc k → (ts : List Bounded) (x : Grown) → Join op left ts x → Joins left ts x
   unfolding Join
   join_joins op left e _ x (seq ts us (opens_sign at h) r) = right_joins op left at e h us x r
 
@@ -139,9 +136,9 @@ module _ (limit l k : ℕ) {operand : ℕ → Parser Grown} (always : (used : �
   unfolding operator_at
   first_known s op e = (operator_known (suc k) (first_kind s) op e).0
 
-  rank_known : (s : List Tok) (op : Sign) → operator_at (suc k) s ≡ Some op → rank op ≡ suc k
+  rank_known : (s : List Tok) (op : Sign) → operator_at (suc k) s ≡ Some op → precedence op ≡ suc k
   unfolding operator_at
-  rank_known s op e = sym (ranks op) ∙ (operator_known (suc k) (first_kind s) op e).1
+  rank_known s op e = (operator_known (suc k) (first_kind s) op e).1
 
   join_strict : (s : List Tok) (op : Sign) → operator_at (suc k) s ≡ Some op → (left x : Grown) (rest : List Tok)
       → joined limit operand op left s ≡ done x rest → length rest < length s
@@ -189,7 +186,7 @@ module _ (limit l k : ℕ) {operand : ℕ → Parser Grown} (always : (used : �
   unfolding chained
   chained_turn left s = chain_onward (length s) left s ∙ all_onward left s (operator_at (suc k) s) refl
 
-  joins_on : (left : Grown) (op : Sign) → rank op ≡ suc k → (ts : List Bounded) (x : Grown) → Seq (Join op left) (λ y. Joins y) ts x → Joins left ts x
+  joins_on : (left : Grown) (op : Sign) → precedence op ≡ suc k → (ts : List Bounded) (x : Grown) → Seq (Join op left) (λ y. Joins y) ts x → Joins left ts x
   joins_on left op e _ x (seq {y} ts us j h) before vs b =
       subst (λ ts. Binary l (suc k) before ts x.tree x.used) (append_assoc vs ts us) (h before (vs ++ ts) (join_joins op left e ts y j before vs b))
 

@@ -1,0 +1,5 @@
+pub mod ListParser
+pub mod ExpressionParser
+pub mod StatementParser
+pub mod ProgramParser
+pub mod DescentLaws
