@@ -1,11 +1,11 @@
 -- The laws, for proofs here and in the crates above.
 use Rattle.std.proofs.Common.{◌≡◌, ◌≢◌, ℕ, ◌+◌, ◌≤◌, inl, inr, ◌&&◌, ◌==◌, ◌%◌, ◌^◌, Bool, true, false, cond, List, [], ◌∷◌, ◌++◌, Option, Some, None, arith, refl, sym, ◌∙◌, ap, subst}
-use Rattle.execution.specs.Traffic.{Entry, Traffic, Extends, next_of, word_at, without_first, input_word, after_input, loose_word, after_loose, after_release, after_write, after_check, after_suspension}
+use Rattle.execution.specs.Traffic.{Element, Entry, Traffic, Extends, is_same_element, next_of, word_at, without_first, input_word, after_input, loose_word, after_loose, after_release, after_write, after_check, after_suspension}
 use Rattle.execution.proofs.TrafficLemmas.{extends-refl, extends-trans, extends-input, extends-loose, extends-release, extends-write, extends-check, extends-suspension}
 use Rattle.regions.specs.declared.rights.Class.{Class}
 use Rattle.c_semantics.specs.declared.tree.Variable.{Variable}
-use Rattle.c_semantics.specs.ResolvedTree.{Element, Program}
-use Rattle.c_semantics.specs.States.{Setting, State, End, Ended, Turns, Outcome, GoesOn, EndsAs, last_state, is_in, is_open, is_same_element, element_of, changed, tick, with_traffic, noting, writing, releasing}
+use Rattle.c_semantics.specs.ResolvedTree.{Program}
+use Rattle.c_semantics.specs.States.{Setting, State, End, Ended, Turns, Outcome, GoesOn, EndsAs, last_state, is_in, is_open, element_of, changed, tick, with_traffic, noting, writing, releasing}
 use Rattle.c_semantics.specs.Meaning.{Meaning, meaning_of, first_state, outcome_of, mean}
 use Rattle.c_semantics.proofs.Relating.{Alike, Holds, Relates, alike-program, keeps-program, keeps-statement}
 use Rattle.c_semantics.specs.MeaningLaws.{MoreTurns, FewerTurns, FewerTurnsLessWork, TurnsAreUsed, Later, OnlyAdds, noting_none, IsSameButNotes, NotingChangesNothingElse, with_loose, ReadsNoEntry}

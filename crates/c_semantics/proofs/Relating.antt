@@ -1,12 +1,12 @@
 -- Two runs of one program side by side. What each single thing that a run does keeps of two states, the whole run keeps.
 use Rattle.std.proofs.Common.{◌≡◌, ◌≢◌, ℕ, zero, suc, ◌+◌, ◌<◌, ◌≤◌, ◌⊎◌, inl, inr, ◌==◌, Bool, true, false, not, List, [], ◌∷◌, Option, Some, None, arith, refl, sym, ap, subst, nat_lt}
-use Rattle.execution.specs.Traffic.{input_word, after_input, loose_word, after_loose, after_check, after_suspension}
+use Rattle.execution.specs.Traffic.{is_same_element, input_word, after_input, loose_word, after_loose, after_check, after_suspension}
 use Rattle.regions.specs.declared.rights.Class.{Class}
 use Rattle.aegis_num.specs.declared.operators.BinaryOp.{BinaryOp}
 use Rattle.aegis_num.specs.Operators.{truth, unary, binary, traps}
 use Rattle.c_semantics.specs.declared.tree.Variable.{Variable}
 use Rattle.c_semantics.specs.ResolvedTree.{Expr, Number, Scalar, Indexed, Called, Input, Unary, Binary, Both, Either, Arguments, NoArguments, Argument, Stmt, Nothing, Then, Empty, Block, Local, Assign, Store, Call, Suspend, Release, Check, Return, Break, Continue, If, While, For, Function}
-use Rattle.c_semantics.specs.States.{Setting, State, End, Index, Divide, Starved, Turns, Outcome, GoesOn, EndsAs, then, choose, is_same_element, is_in, element_of, kept_word, loosely, tick, with_traffic, noting, reading, writing, within, applied, taking_input, releasing, begin_turn}
+use Rattle.c_semantics.specs.States.{Setting, State, End, Index, Divide, Starved, Turns, Outcome, GoesOn, EndsAs, then, choose, is_in, element_of, kept_word, loosely, tick, with_traffic, noting, reading, writing, within, applied, taking_input, releasing, begin_turn}
 use Rattle.c_semantics.specs.Meaning.{Flow, Completed, Broke, Continued, Returned, Turn, Again, Leaves, Calls, value, values, value_or_zero, condition, after_statement, after_body, turn, after_turn, iterate, loop, completes, meaning, result_of, given, function_meaning, with_function, no_calls, calls_from, calls_of}
 
 -- how two outcomes are alike: the same value or end and states in relation, or the first has used its turns and the second has gone on from there

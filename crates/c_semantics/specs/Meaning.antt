@@ -1,10 +1,10 @@
 -- What a program does, by its structure, over variables and arrays of words.
 use Rattle.std.specs.Prelude.{ℕ, zero, suc, ◌+◌, Bool, true, false, cond, not, ◌==◌, List, [], ◌∷◌, Option, Some, None, slice_index}
-use Rattle.execution.specs.Traffic.{Entry, Traffic, traffic_from, after_check, after_suspension}
+use Rattle.execution.specs.Traffic.{Element, Entry, Traffic, traffic_from, after_check, after_suspension}
 use Rattle.aegis_num.specs.Operators.{truth, unary}
 use Rattle.c_semantics.specs.declared.tree.Variable.{Variable}
 use Rattle.regions.specs.declared.rights.Class.{Class}
-use Rattle.c_semantics.specs.ResolvedTree.{Element, Expr, Number, Scalar, Indexed, Called, Input, Unary, Binary, Both, Either, Arguments, NoArguments, Argument, Stmt, Nothing, Then, Empty, Block, Local, Assign, Store, Call, Suspend, Release, Check, Return, Break, Continue, If, While, For, Function, Object, Program}
+use Rattle.c_semantics.specs.ResolvedTree.{Expr, Number, Scalar, Indexed, Called, Input, Unary, Binary, Both, Either, Arguments, NoArguments, Argument, Stmt, Nothing, Then, Empty, Block, Local, Assign, Store, Call, Suspend, Release, Check, Return, Break, Continue, If, While, For, Function, Object, Program}
 use Rattle.c_semantics.specs.States.{Setting, State, End, Ended, Turns, Outcome, GoesOn, EndsAs, then, choose, tick, noting, reading, writing, within, applied, taking_input, releasing, begin_turn}
 
 -- how a statement is left: for the next one, by `break`, by `continue`, or by `return` with a value

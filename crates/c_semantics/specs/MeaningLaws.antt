@@ -1,8 +1,8 @@
 -- What follows of the meaning: of its bound on turns, of its counts, and of loose classes.
 use Rattle.std.specs.Prelude.{◌≡◌, ◌≢◌, ℕ, ◌+◌, ◌≤◌, Bool, true, false, List, []}
-use Rattle.execution.specs.Traffic.{Entry, Extends}
+use Rattle.execution.specs.Traffic.{Element, Entry, Extends}
 use Rattle.regions.specs.declared.rights.Class.{Class}
-use Rattle.c_semantics.specs.ResolvedTree.{Element, Stmt, Function, Program}
+use Rattle.c_semantics.specs.ResolvedTree.{Stmt, Function, Program}
 use Rattle.c_semantics.specs.States.{Setting, State, Turns, EndsAs, last_state}
 use Rattle.c_semantics.specs.Meaning.{Meaning, meaning, calls_of, outcome_of, mean}
 

@@ -5,11 +5,6 @@ use Rattle.aegis_num.specs.declared.operators.BinaryOp.{BinaryOp}
 use Rattle.aegis_num.specs.declared.operators.UnaryOp.{UnaryOp}
 use Rattle.c_semantics.specs.declared.tree.Variable.{Variable}
 
--- an element of a variable or an array; a variable that is no array has the one element 0
-pub record Element : Type 0 where
-  pub variable : ℕ
-  pub index : ℕ
-
 mutual
   pub data Expr : Type 0 where
     Number : (value : ℕ) → Expr

@@ -1,12 +1,11 @@
 -- What a run of a program goes through, and the single things that it does.
 use Rattle.std.specs.Prelude.{ℕ, zero, suc, ◌+◌, Bool, true, false, cond, ◌==◌, ◌&&◌, nat_lt, Option, Some, None}
-use Rattle.execution.specs.Traffic.{Traffic, input_word, after_input, loose_word, after_loose, after_release, after_write}
+use Rattle.execution.specs.Traffic.{Element, is_same_element, Traffic, input_word, after_input, loose_word, after_loose, after_release, after_write}
 use Rattle.regions.specs.declared.rights.Class.{Class}
 use Rattle.regions.specs.declared.rights.Class.TheVariants.{Open}
 use Rattle.aegis_num.specs.declared.operators.BinaryOp.{BinaryOp}
 use Rattle.aegis_num.specs.Operators.{binary, traps}
 use Rattle.c_semantics.specs.declared.tree.Variable.{Variable}
-use Rattle.c_semantics.specs.ResolvedTree.{Element}
 
 -- which classes are loose, and whether work, checks, suspensions and shared writes are noted
 pub record Setting : Type 0 where
@@ -45,9 +44,6 @@ then (EndsAs end state) go = EndsAs end state
 abbrev pub last_state : {A : Type 0} → Outcome A → State
 last_state (GoesOn value state) = state
 last_state (EndsAs end state) = state
-
-abbrev pub is_same_element : Element → Element → Bool
-is_same_element one other = one.variable == other.variable && one.index == other.index
 
 -- of no class, a local, nothing is loose
 abbrev pub is_in : (Class → Bool) → Option Class → Bool

@@ -1,3 +1,4 @@
+pub mod NamingLemmas
 pub mod RunLemmas
 pub mod TrafficLemmas
 mod Worked

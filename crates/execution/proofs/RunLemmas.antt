@@ -1,6 +1,6 @@
--- What follows for runs, for proofs here and in the crates above.
-use Rattle.std.proofs.Common.{◌≡◌, ℕ, zero, suc, ◌+◌, ◌-◌, ◌⊎◌, inl, inr, arith, refl, sym, ◌∙◌, ap, subst, zero-add}
-use Rattle.execution.specs.Run.{Next, Goes, Stops, and_then, run, state_of, IsLonger}
+-- What follows for runs.
+use Rattle.std.proofs.Common.{◌≡◌, ℕ, zero, suc, ◌+◌, ◌-◌, ◌≤◌, ◌⊎◌, inl, inr, arith, refl, sym, ◌∙◌, ap, subst, zero-add}
+use Rattle.execution.specs.Run.{Next, Goes, Stops, and_then, run, state_of, IsLonger, EndsIn}
 use Rattle.std.proofs.lemmas.Bool.{cases_lt}
 
 -- the end, or another one where there is none yet
@@ -53,3 +53,51 @@ module _ {State End : Type 0} (step : State → Next State End) where
       go : (next : Next State End) → P (state_of next) → ((s : State) → P s → P (state_of (run step n s))) → P (state_of (and_then next (run step n)))
       go (Goes s) h later = later s h
       go (Stops end s) h later = h
+
+  -- a run that goes on has not ended
+  goes-not-stops : (next : Next State End) (state at : State) (end : End) → next ≡ Goes state → next ≡ Stops end at → ⊥
+  goes-not-stops (Goes s) state at end e f = absurd (grind (arith, f))
+  goes-not-stops (Stops final s) state at end e f = absurd (grind (arith, e))
+
+  pub ends-in-one : (m n : ℕ) (start at other : State) (end final : End) → EndsIn step m start end at → EndsIn step n start final other → (m ≡ n) × (end ≡ final) × (at ≡ other)
+  ends-in-one m n start at other end final one two =
+      let both : (end ≡ final) × (at ≡ other) = ends-one m n start at other end final one.ended two.ended in (
+        elim (cases_lt m n) [
+          | inl below ↦ absurd (let on = two.not_before m below in goes-not-stops (run step m start) on.0 at end on.1 one.ended)
+          | inr above ↦ elim (cases_lt n m) [
+            | inl below ↦ absurd (let on = one.not_before n below in goes-not-stops (run step n start) on.0 other final on.1 two.ended)
+            | inr above' ↦ omega (arith, above, above')
+          ]
+        ],
+        both.0,
+        both.1,
+      )
+
+  -- where a run has gone on after some steps, it had gone on after fewer
+  went-on : (fewer steps : ℕ) (start state : State) → fewer ≤ steps → run step steps start ≡ Goes state → (s : State) × (run step fewer start ≡ Goes s)
+  went-on fewer steps start state below e =
+      go (run step fewer start) refl
+    where
+      go : (next : Next State End) → run step fewer start ≡ next → (s : State) × (run step fewer start ≡ Goes s)
+      go (Goes s) h = (s, h)
+      go (Stops end at) h =
+          let q : fewer + (steps - fewer) ≡ steps = omega (arith, below) in
+          absurd (goes-not-stops (run step steps start) state at end e (subst (λ k. run step k start ≡ Stops end at) q (run-ended fewer (steps - fewer) start at end h)))
+
+  pub ends-found : (steps : ℕ) (start at : State) (end : End) → run step steps start ≡ Stops end at → (exactly : ℕ) × (exactly ≤ steps) × EndsIn step exactly start end at
+  ends-found zero start at end e = absurd (grind (arith, e))
+  ends-found (suc steps) start at end e = go (ends-found steps start at end) (run step steps start) refl
+    where
+      Found : ℕ → Type 0
+      Found most = (exactly : ℕ) × (exactly ≤ most) × EndsIn step exactly start end at
+
+      same : (final : End) (other : State) → run step steps start ≡ Stops final other → run step steps start ≡ Stops end at
+      same final other h =
+          let both : (end ≡ final) × (at ≡ other) = ends-one (suc steps) steps start at other end final e h in
+          h ∙ ap (λ f. Stops f other) (sym both.0) ∙ ap (λ s. Stops end s) (sym both.1)
+
+      go : (run step steps start ≡ Stops end at → Found steps) → (next : Next State End) → run step steps start ≡ next → Found (suc steps)
+      go earlier (Goes s) h = (suc steps, omega arith, record { ended = e; not_before = λ fewer below. went-on fewer steps start s (omega (arith, below)) h })
+      go earlier (Stops final other) h =
+          let found : Found steps = earlier (same final other h) in
+          (found.0, (let below : found.0 ≤ steps = found.1 in omega (arith, below)), found.2)

@@ -1,8 +1,7 @@
--- What follows for what goes in and comes out, for proofs here and in the crates above.
-use Rattle.std.proofs.Common.{◌≡◌, ℕ, ◌+◌, ◌%◌, ◌^◌, Bool, List, [], ◌∷◌, ◌++◌, length, map, Some, arith, refl, sym, ◌∙◌, ap, append_assoc, append-nil}
-use Rattle.std.proofs.lemmas.List.{map-append}
+-- What follows for what goes in and comes out.
+use Rattle.std.proofs.Common.{◌≡◌, ℕ, ◌+◌, ◌%◌, ◌^◌, Bool, List, [], ◌∷◌, ◌++◌, length, Some, arith, refl, sym, ◌∙◌, ap, append_assoc, append-nil}
 use Rattle.std.proofs.lemmas.List.{length-append}
-use Rattle.execution.specs.Traffic.{Entry, Traffic, Extends, after_input, after_loose, after_release, after_write, after_check, after_suspension, without_first, word_at, loose_word, entry_named, traffic_named}
+use Rattle.execution.specs.Traffic.{Entry, Traffic, Extends, after_input, after_loose, after_release, after_write, after_check, after_suspension, without_first, word_at}
 
 -- first by one, then by the other
 joined : {A : Type 0} → (one two three more other : List A) → two ≡ one ++ more → three ≡ two ++ other → three ≡ one ++ (more ++ other)
@@ -104,25 +103,3 @@ module _ {Place : Type 0} where
     checks = same.checks;
     suspensions = omega arith;
   }
-
-module _ {Place Name : Type 0} (name : Place → Name) where
-  -- a place under its name is found where it was found
-  pub named-loose : (same : Place → Place → Bool) (same_name : Name → Name → Bool) (place : Place) (t : Traffic Place) →
-      ((other : Place) → same_name (name place) (name other) ≡ same place other) →
-      loose_word same_name (name place) (traffic_named name t) ≡ loose_word same place t
-  named-loose same same_name place t kept = go t.loose
-    where
-      go : (entries : List (Entry Place)) → word_at same_name (name place) (map (entry_named name) entries) ≡ word_at same place entries
-      go [] = refl
-      go (entry ∷ entries) = rw (kept entry.place) refl
-
-  named-rest : (entries : List (Entry Place)) → without_first (map (entry_named name) entries) ≡ map (entry_named name) (without_first entries)
-  named-rest [] = refl
-  named-rest (entry ∷ entries) = refl
-
-  pub named-after_loose : (t : Traffic Place) → after_loose (traffic_named name t) ≡ traffic_named name (after_loose t)
-  named-after_loose t = ap (λ left. record (after_loose (traffic_named name t)) { loose = left }) (named-rest t.loose)
-
-  pub named-after_write : (place : Place) (word : ℕ) (t : Traffic Place) → after_write (name place) word (traffic_named name t) ≡ traffic_named name (after_write place word t)
-  named-after_write place word t =
-      ap (λ all. record (traffic_named name t) { writes = all }) (sym (map-append (entry_named name) t.writes (record { place = place; word = word } ∷ [])))

@@ -1,5 +1,5 @@
--- A machine that goes step by step from state to state until it ends.
-use Rattle.std.specs.Prelude.{◌≡◌, ℕ, zero, suc, ◌+◌, ◌⊎◌}
+-- Promise: a machine that goes step by step from state to state until it ends.
+use Rattle.std.specs.Prelude.{◌≡◌, ℕ, zero, suc, ◌+◌, ◌<◌, ◌≤◌, ◌⊎◌}
 
 -- a state to go on from, or an end with the state at it
 pub data Next (State End : Type 0) : Type 0 where
@@ -30,7 +30,7 @@ abbrev pub RunsJoin : (State End : Type 0) → Type 0
 RunsJoin State End =
     (step : State → Next State End) (m n : ℕ) (state : State) → run step (m + n) state ≡ and_then (run step m state) (run step n)
 
--- behind an end more steps change nothing
+-- after an end more steps change nothing
 abbrev pub EndsStay : (State End : Type 0) → Type 0
 EndsStay State End =
     (step : State → Next State End) (m more : ℕ) (state at : State) (end : End) → run step m state ≡ Stops end at → run step (m + more) state ≡ Stops end at
@@ -46,3 +46,15 @@ abbrev pub OneIsLonger : (State End : Type 0) → Type 0
 OneIsLonger State End =
     (step : State → Next State End) (m n : ℕ) (state : State) →
     IsLonger step (run step m state) (run step n state) ⊎ IsLonger step (run step n state) (run step m state)
+
+-- the machine ends in exactly so many steps, at this state
+pub record EndsIn {State End : Type 0} (step : State → Next State End) (steps : ℕ) (start : State) (end : End) (at : State) : Type 0 where
+  pub ended : run step steps start ≡ Stops end at
+  pub not_before : (fewer : ℕ) → fewer < steps → (state : State) × (run step fewer start ≡ Goes state)
+
+-- it does so in one number of steps, with one end at one state; and a run that has ended did so in exactly some number of steps
+pub record EndsInOne (State End : Type 0) : Type 0 where
+  pub one : (step : State → Next State End) (m n : ℕ) (start at other : State) (end final : End) →
+      EndsIn step m start end at → EndsIn step n start final other → (m ≡ n) × (end ≡ final) × (at ≡ other)
+  pub found : (step : State → Next State End) (steps : ℕ) (start at : State) (end : End) →
+      run step steps start ≡ Stops end at → (exactly : ℕ) × (exactly ≤ steps) × EndsIn step exactly start end at

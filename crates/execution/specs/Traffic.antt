@@ -1,6 +1,14 @@
--- What goes into a program and comes out of it. A place is what a loose word or a shared write is named by: a variable
--- and an index in the source, an address in machine code.
-use Rattle.std.specs.Prelude.{◌≡◌, ℕ, ◌+◌, ◌-◌, ◌%◌, ◌^◌, ◌≤◌, Bool, cond, List, [], ◌∷◌, ◌++◌, length, map, Option, Some, None}
+-- Promise: what goes into a program and comes out of it. A place is what a loose word or a shared write is named by: an
+-- element in the source, an address in machine code.
+use Rattle.std.specs.Prelude.{◌≡◌, ℕ, ◌+◌, ◌-◌, ◌%◌, ◌^◌, ◌≤◌, Bool, ◌&&◌, ◌==◌, cond, List, [], ◌∷◌, ◌++◌, length, Option, Some, None}
+
+-- an element of a variable or an array of the source; a variable that is no array has the one element 0
+pub record Element : Type 0 where
+  pub variable : ℕ
+  pub index : ℕ
+
+abbrev pub is_same_element : Element → Element → Bool
+is_same_element one other = one.variable == other.variable && one.index == other.index
 
 -- a word at a place
 pub record Entry (Place : Type 0) : Type 0 where
@@ -40,7 +48,7 @@ abbrev pub without_first : {A : Type 0} → List A → List A
 without_first [] = []
 without_first (x ∷ xs) = xs
 
--- the next byte, or -1 behind the last one
+-- the next byte, or -1 after the last one
 abbrev pub next_of : List ℕ → ℕ
 next_of [] = 2 ^ 32 - 1
 next_of (byte ∷ bytes) = byte % 2 ^ 8
@@ -88,23 +96,6 @@ pub record Extends {Place : Type 0} (earlier later : Traffic Place) : Type 0 whe
   pub checks : earlier.checks ≤ later.checks
   pub suspensions : earlier.suspensions ≤ later.suspensions
 
--- each entry at the place that its own place stands for
-abbrev pub entry_named : {Place Name : Type 0} → (Place → Name) → Entry Place → Entry Name
-entry_named name entry = record { place = name entry.place; word = entry.word }
-
--- the same, with each place under another name
-abbrev pub traffic_named : {Place Name : Type 0} → (Place → Name) → Traffic Place → Traffic Name
-traffic_named name t = record {
-  input = t.input;
-  loose = map (entry_named name) t.loose;
-  taken = t.taken;
-  bytes = t.bytes;
-  writes = map (entry_named name) t.writes;
-  releases = t.releases;
-  checks = t.checks;
-  suspensions = t.suspensions;
-}
-
 -- nothing has to come or go for a state to extend itself, and two stretches make one
 abbrev pub ExtendsJoins : (Place : Type 0) → Type 0
 ExtendsJoins Place = (one two three : Traffic Place) → Extends one two → Extends two three → Extends one three
@@ -118,12 +109,3 @@ pub record EachExtends (Place : Type 0) : Type 0 where
   pub write : (place : Place) (word : ℕ) (t : Traffic Place) → Extends t (after_write place word t)
   pub check : (t : Traffic Place) → Extends t (after_check t)
   pub suspension : (t : Traffic Place) → Extends t (after_suspension t)
-
--- Under other names each way in and out is the same, if the names tell places apart as before.
-pub record NamesKeep (Place Name : Type 0) : Type 0 where
-  pub loose : (name : Place → Name) (same : Place → Place → Bool) (same_name : Name → Name → Bool) (place : Place) (t : Traffic Place) →
-      ((other : Place) → same_name (name place) (name other) ≡ same place other) →
-      loose_word same_name (name place) (traffic_named name t) ≡ loose_word same place t
-  pub after_loose : (name : Place → Name) (t : Traffic Place) → after_loose (traffic_named name t) ≡ traffic_named name (after_loose t)
-  pub after_write : (name : Place → Name) (place : Place) (word : ℕ) (t : Traffic Place) →
-      after_write (name place) word (traffic_named name t) ≡ traffic_named name (after_write place word t)

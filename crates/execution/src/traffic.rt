@@ -1,5 +1,5 @@
 //! Laws of what goes in and comes out.
-ghost use Rattle.execution.specs.Traffic.{EachExtends, ExtendsJoins, NamesKeep};
+ghost use Rattle.execution.specs.Traffic.{EachExtends, ExtendsJoins};
 
 /// Each way in and out adds bytes and writes at the end, takes input and loose words from the front, and lowers no count.
 pub fn each_extends<Place>()
@@ -9,9 +9,4 @@ pub fn each_extends<Place>()
 /// What extends something that extends the first extends the first.
 pub fn extends_joins<Place>()
     ensures joined { ExtendsJoins Place }
-{}
-
-/// Places under other names are read and written as they were.
-pub fn names_keep<Place, Name>()
-    ensures kept { NamesKeep Place Name }
 {}
