@@ -4,14 +4,12 @@ use Rattle.std.specs.List.{list_all}
 use Rattle.std.proofs.lemmas.Bool.{and_from, and_parts}
 use Rattle.std.proofs.lemmas.List.{map-append}
 use Rattle.c_token.specs.declared.Kind.{Kind}
-use Rattle.c_token.specs.Lexemes.{lexeme_of}
 use Rattle.c_token.specs.PlainText.{is_in_form}
 use Rattle.c_grammar.specs.BoundedTokens.{Bounded, bounded_kinds}
 use Rattle.c_grammar.specs.TokenPrograms.{limit, AreLimited}
-use Rattle.c_grammar.proofs.AlikeKinds.{lexemes_in}
 
 abbrev pub IsFine : Bounded → Type 0
-IsFine token = (token.spot.bound ≤ limit) × (is_in_form (lexeme_of token.kind) ≡ true)
+IsFine token = (token.spot.bound ≤ limit) × (is_in_form token.kind ≡ true)
 
 abbrev pub AreFine : List Bounded → Type 0
 AreFine [] = Unit {0}
@@ -29,11 +27,11 @@ pub fine_limited : (ts : List Bounded) → AreFine ts → AreLimited ts
 fine_limited [] fine = tt
 fine_limited (t ∷ ts) fine = (fine.0.0, fine_limited ts fine.1)
 
-pub fine_in_form : (ts : List Bounded) → AreFine ts → list_all is_in_form (lexemes_in (bounded_kinds ts)) ≡ true
+pub fine_in_form : (ts : List Bounded) → AreFine ts → list_all is_in_form (bounded_kinds ts) ≡ true
 fine_in_form [] fine = refl
 fine_in_form (t ∷ ts) fine = and_from _ _ fine.0.1 (fine_in_form ts fine.1)
 
-pub fine_from : (ts : List Bounded) → AreLimited ts → list_all is_in_form (lexemes_in (bounded_kinds ts)) ≡ true → AreFine ts
+pub fine_from : (ts : List Bounded) → AreLimited ts → list_all is_in_form (bounded_kinds ts) ≡ true → AreFine ts
 fine_from [] limited form = tt
 fine_from (t ∷ ts) limited form = let more = and_parts _ _ form in ((limited.0, more.0), fine_from ts limited.1 more.1)
 

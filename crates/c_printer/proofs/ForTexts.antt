@@ -9,10 +9,10 @@ use Rattle.c_grammar.specs.declared.stmt.Stmt.TheVariants.{For}
 use Rattle.c_grammar.specs.declared.stmt.Stmt.TheOpen.{Stmt-F}
 use Rattle.c_printer.specs.PrintedTokens.{stmt_step, stmt_kinds, head_kinds, in_code}
 use Rattle.c_printer.proofs.PrintedForms.{stmt_kinds-For}
-use Rattle.c_printer.specs.Printing.{spelled, spelled_all, head_begin_kinds, head_end_kinds}
+use Rattle.c_printer.specs.PrintedParts.{spaced_token, spaced_tokens, head_begin_kinds, head_end_kinds}
 
-parts : (a b c : List Kind) → spelled_all (head_begin_kinds a) ++ (spelled_all b ++ spelled_all c) ≡ spelled_all (head_begin_kinds a ++ (b ++ c))
-parts a b c = sym (flat_map-append spelled (head_begin_kinds a) (b ++ c) ∙ ap (λ text. spelled_all (head_begin_kinds a) ++ text) (flat_map-append spelled b c))
+parts : (a b c : List Kind) → spaced_tokens (head_begin_kinds a) ++ (spaced_tokens b ++ spaced_tokens c) ≡ spaced_tokens (head_begin_kinds a ++ (b ++ c))
+parts a b c = sym (flat_map-append spaced_token (head_begin_kinds a) (b ++ c) ∙ ap (λ text. spaced_tokens (head_begin_kinds a) ++ text) (flat_map-append spaced_token b c))
 
 -- the printed tokens of a head and a body, in one
 shape : (a : List Kind) (test : Option Expr) (last c : List Kind) → stmt_step (Stmt-F.For (Some (λ _. a)) test (Some (λ _. last)) (λ _. c) 0) in_code ≡ head_begin_kinds a ++ (head_end_kinds test last ++ c)
@@ -20,19 +20,19 @@ shape a test last c = simp append_assoc
 
 pub for_text : (old begun ended new : List ℕ) (stmt : Stmt) (first : Option Stmt) (test : Option Expr) (step : Option Stmt) (body inner : Stmt) (token : ℕ)
     → stmt ≡ For first test step body token
-    → begun ≡ old ++ spelled_all (head_begin_kinds (head_kinds (option_map stmt_kinds first)))
-    → ended ≡ begun ++ spelled_all (head_end_kinds test (head_kinds (option_map stmt_kinds step)))
+    → begun ≡ old ++ spaced_tokens (head_begin_kinds (head_kinds (option_map stmt_kinds first)))
+    → ended ≡ begun ++ spaced_tokens (head_end_kinds test (head_kinds (option_map stmt_kinds step)))
     → inner ≡ body
-    → new ≡ ended ++ spelled_all (stmt_kinds inner in_code)
-    → new ≡ old ++ spelled_all (stmt_kinds stmt in_code)
+    → new ≡ ended ++ spaced_tokens (stmt_kinds inner in_code)
+    → new ≡ old ++ spaced_tokens (stmt_kinds stmt in_code)
 for_text old begun ended new stmt first test step body inner token is begin end same rest =
     let a = head_kinds (option_map stmt_kinds first) in
     let last = head_kinds (option_map stmt_kinds step) in
     let b = head_end_kinds test last in
     let c = stmt_kinds body in_code in
-    rest ∙ ap (λ inner. ended ++ spelled_all (stmt_kinds inner in_code)) same
-    ∙ ap (λ text. text ++ spelled_all c) (end ∙ ap (λ text. text ++ spelled_all b) begin)
-    ∙ append_assoc (old ++ spelled_all (head_begin_kinds a)) (spelled_all b) (spelled_all c)
-    ∙ append_assoc old (spelled_all (head_begin_kinds a)) (spelled_all b ++ spelled_all c)
+    rest ∙ ap (λ inner. ended ++ spaced_tokens (stmt_kinds inner in_code)) same
+    ∙ ap (λ text. text ++ spaced_tokens c) (end ∙ ap (λ text. text ++ spaced_tokens b) begin)
+    ∙ append_assoc (old ++ spaced_tokens (head_begin_kinds a)) (spaced_tokens b) (spaced_tokens c)
+    ∙ append_assoc old (spaced_tokens (head_begin_kinds a)) (spaced_tokens b ++ spaced_tokens c)
     ∙ ap (λ text. old ++ text) (parts a b c)
-    ∙ ap (λ kinds. old ++ spelled_all kinds) (sym (ap (λ f. f in_code) (ap stmt_kinds is ∙ stmt_kinds-For first test step body token) ∙ shape a test last c))
+    ∙ ap (λ kinds. old ++ spaced_tokens kinds) (sym (ap (λ f. f in_code) (ap stmt_kinds is ∙ stmt_kinds-For first test step body token) ∙ shape a test last c))

@@ -1,4 +1,4 @@
-mod PrintedForms
+pub mod PrintedForms
 mod PrintedExamples
 pub mod PlainEnds
 pub mod ForTexts
@@ -8,3 +8,4 @@ pub mod PrintedStatements
 pub mod PrintedPrograms
 pub mod ReadsBack
 pub mod Worked
+pub mod Printable

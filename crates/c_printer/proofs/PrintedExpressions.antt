@@ -7,14 +7,14 @@ use Rattle.c_token.specs.declared.Sign.TheVariants as signs
 use Rattle.c_grammar.specs.declared.Expr.{Expr}
 use Rattle.c_grammar.specs.BoundedTokens.{Bounded, bounded_kinds, sign}
 use Rattle.c_grammar.specs.ExpressionGrammar.{Expression, Binary, Unary, Primary, Arguments, Listed}
-use Rattle.c_printer.specs.PrintedTokens.{expr_kinds, with_commas, behind_commas, arguments_kinds}
+use Rattle.c_printer.specs.PrintedTokens.{expr_kinds, with_commas, after_commas, arguments_kinds}
 use Rattle.c_printer.proofs.PrintedForms as laws
 use Rattle.c_printer.proofs.FineTokens.{piece}
 
 -- at least one expression is listed
-behind_listed : {l : ℕ} {ts : List Bounded} {xs : List Expr} → Listed l ts xs → behind_commas (map expr_kinds xs) ≡ kinds.Sign signs.Comma ∷ with_commas (map expr_kinds xs)
-behind_listed (Listed.one d) = refl
-behind_listed (Listed.further comma d d2) = refl
+after_listed : {l : ℕ} {ts : List Bounded} {xs : List Expr} → Listed l ts xs → after_commas (map expr_kinds xs) ≡ kinds.Sign signs.Comma ∷ with_commas (map expr_kinds xs)
+after_listed (Listed.one d) = refl
+after_listed (Listed.further comma d d2) = refl
 
 mutual
   pub printed_expression : {l : ℕ} {ts : List Bounded} {x : Expr} → Expression l ts x → bounded_kinds ts ≡ expr_kinds x
@@ -53,4 +53,4 @@ mutual
   printed_listed (Listed.further {ts = ts} {us = us} {x = x} {xs = xs} comma d d2) =
       piece ts (sign comma signs.Comma ∷ us) (printed_expression d)
       ∙ ap (λ ks. expr_kinds x ++ kinds.Sign signs.Comma ∷ ks) (printed_listed d2)
-      ∙ ap (λ ks. expr_kinds x ++ ks) (sym (behind_listed d2))
+      ∙ ap (λ ks. expr_kinds x ++ ks) (sym (after_listed d2))

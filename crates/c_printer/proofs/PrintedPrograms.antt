@@ -8,7 +8,6 @@ use Rattle.c_token.specs.declared.Kind.{Kind}
 use Rattle.c_token.specs.declared.Kind.TheVariants as kinds
 use Rattle.c_token.specs.declared.Word.TheVariants as words
 use Rattle.c_token.specs.declared.Sign.TheVariants as signs
-use Rattle.c_token.specs.Lexemes.{number}
 use Rattle.c_token.specs.PlainText.{is_in_form}
 use Rattle.c_grammar.specs.declared.Stmt.{Stmt}
 use Rattle.c_grammar.specs.declared.Item.{Item}
@@ -21,7 +20,7 @@ use Rattle.c_grammar.specs.TokenPrograms.{limit}
 use Rattle.c_grammar.specs.BoundedTokens as toks
 use Rattle.c_grammar.specs.BoundedTokens.{Spot, Bounded, bounded_kinds, name, sign, word}
 use Rattle.c_grammar.specs.ProgramGrammar.{IsStorage, IsLength, IsValue, AreValues, AreInitial, IsResult, IsParameter, AreListed, AreParameters, IsPrivate, IsItem, AreItems, IsProgram}
-use Rattle.c_printer.specs.PrintedTokens.{type_kind, with_commas, behind_commas, storage_kinds, length_kinds, value_kinds, values_kinds, result_kind, parameter_kinds, parameters_kinds, in_a_row, stmt_kinds, block_kinds, item_kinds, items_kinds, program_kinds}
+use Rattle.c_printer.specs.PrintedTokens.{type_kind, with_commas, after_commas, storage_kinds, length_kinds, value_kinds, values_kinds, result_kind, parameter_kinds, parameters_kinds, in_a_row, stmt_kinds, block_kinds, item_kinds, items_kinds, program_kinds}
 use Rattle.c_printer.proofs.FineTokens.{IsFine, AreFine, fine-append, fine-join, piece}
 use Rattle.c_printer.proofs.PrintedStatements.{type_token, printed_type, printed_body}
 
@@ -37,7 +36,7 @@ printed_storage (IsStorage.shared at) fine = (word at words.Shared ∷ [], (IsSt
 printed_storage (IsStorage.logged at) fine = (word at words.Logged ∷ [], (IsStorage.logged at, refl, fine))
 
 -- a length has its suffix only where it has to
-plain_form : (length : ℕ) (unsigned : Bool) → is_in_form (number length unsigned) ≡ true → is_in_form (number length (nat_lt 2147483647 length)) ≡ true
+plain_form : (length : ℕ) (unsigned : Bool) → is_in_form (kinds.Number length unsigned) ≡ true → is_in_form (kinds.Number length (nat_lt 2147483647 length)) ≡ true
 plain_form length unsigned form =
     and_from _ _ (and_parts _ _ form).0 (let large : (nat_lt 2147483647 length || nat_le length 2147483647) ≡ true = grind (arith, nat_tests) in large)
 
@@ -55,16 +54,16 @@ printed_value : {ts : List Bounded} {x : Value} → IsValue ts x → bounded_kin
 printed_value (IsValue.plain value unsigned at) = refl
 printed_value (IsValue.negative value unsigned minus at) = refl
 
-behind_values : {ts : List Bounded} {xs : List Value} → AreValues ts xs → behind_commas (map value_kinds xs) ≡ kinds.Sign signs.Comma ∷ with_commas (map value_kinds xs)
-behind_values (AreValues.one d) = refl
-behind_values (AreValues.further comma d d2) = refl
+after_values : {ts : List Bounded} {xs : List Value} → AreValues ts xs → after_commas (map value_kinds xs) ≡ kinds.Sign signs.Comma ∷ with_commas (map value_kinds xs)
+after_values (AreValues.one d) = refl
+after_values (AreValues.further comma d d2) = refl
 
 printed_values : {ts : List Bounded} {xs : List Value} → AreValues ts xs → bounded_kinds ts ≡ with_commas (map value_kinds xs)
 printed_values (AreValues.one {x = x} d) = printed_value d ∙ sym (append-nil (value_kinds x))
 printed_values (AreValues.further {ts = ts} {us = us} {x = x} {xs = xs} comma d d2) =
     piece ts (sign comma signs.Comma ∷ us) (printed_value d)
     ∙ ap (λ ks. value_kinds x ++ kinds.Sign signs.Comma ∷ ks) (printed_values d2)
-    ∙ ap (λ ks. value_kinds x ++ ks) (sym (behind_values d2))
+    ∙ ap (λ ks. value_kinds x ++ ks) (sym (after_values d2))
 
 printed_initial : {ts : List Bounded} {xs : List Value} {braces : Bool} → AreInitial ts xs braces → bounded_kinds ts ≡ values_kinds braces xs
 printed_initial (AreInitial.single {x = x} d) = printed_value d ∙ sym (append-nil (value_kinds x))
@@ -90,7 +89,7 @@ printed_parameter (IsParameter.typed {ts = ts} {is_unsigned = is_unsigned} first
 abbrev PrintedListed : List Parameter → Type 0
 PrintedListed xs =
     (us : List Bounded) × (AreListed us xs × (bounded_kinds us ≡ with_commas (map parameter_kinds xs))
-    × (behind_commas (map parameter_kinds xs) ≡ kinds.Sign signs.Comma ∷ with_commas (map parameter_kinds xs))
+    × (after_commas (map parameter_kinds xs) ≡ kinds.Sign signs.Comma ∷ with_commas (map parameter_kinds xs))
     × (kinds.Sign signs.LeftParenthesis ∷ (with_commas (map parameter_kinds xs) ++ kinds.Sign signs.RightParenthesis ∷ []) ≡ parameters_kinds xs)
     × AreFine us)
 

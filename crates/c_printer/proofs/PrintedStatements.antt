@@ -56,7 +56,7 @@ printed_local (Local.valued {ts = ts} {us = us} {is_unsigned = is_unsigned} {x =
       ),
     )
 
--- behind a local or a simple part the sign `;`
+-- after a local or a simple part the sign `;`
 local_ends : {l : ℕ} {ts : List Bounded} {x : Stmt} → Local l ts x → stmt_kinds x in_code ≡ stmt_kinds x in_head ++ kinds.Sign signs.Semicolon ∷ []
 local_ends (Local.plain {is_unsigned = is_unsigned} first at text bound d) =
     let e = laws.stmt_kinds-Local is_unsigned text None at.place in

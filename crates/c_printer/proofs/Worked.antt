@@ -1,12 +1,10 @@
 -- The worked program is one that the grammar gives to tokens in form.
-use Rattle.std.proofs.Common.{◌≡◌, ℕ, ◌+◌, true, false, List, [], ◌∷◌, refl, sym, subst, arith}
+use Rattle.std.proofs.Common.{ℕ, ◌+◌, false, List, [], ◌∷◌, refl, arith}
 use Rattle.std.specs.Prelude.{codes}
 use Rattle.c_token.specs.declared.Kind.{Kind}
 use Rattle.c_token.specs.declared.Kind.TheVariants as kinds
 use Rattle.c_token.specs.declared.Word.TheVariants as words
 use Rattle.c_token.specs.declared.Sign.TheVariants as signs
-use Rattle.c_token.specs.Lexemes.{name}
-use Rattle.c_token.specs.PlainText.{is_in_form}
 use Rattle.c_grammar.specs.declared.expr.Expr.TheVariants.{Number}
 use Rattle.c_grammar.specs.TokenPrograms.{AreProgram}
 use Rattle.c_grammar.specs.BoundedTokens as toks
@@ -14,7 +12,7 @@ use Rattle.c_grammar.specs.BoundedTokens.{Spot, Bounded}
 use Rattle.c_grammar.specs.ExpressionGrammar.{Expression, Binary, Unary, Primary}
 use Rattle.c_grammar.specs.StatementGrammar.{IsType, Simple, Statement, Maybe, Body}
 use Rattle.c_grammar.specs.ProgramGrammar.{IsPrivate, IsResult, AreParameters, IsItem, AreItems}
-use Rattle.c_printer.specs.Examples.{release_of, worked_program}
+use Rattle.c_printer.specs.PrintedExample.{release_of, worked_program}
 use Rattle.c_printer.specs.Printing.{IsPrintable}
 
 abbrev spot : ℕ → Spot
@@ -51,8 +49,5 @@ reads main =
     (Body.statement (Statement.«return» (spot 16) (spot 18) (omega arith) (Maybe.given (literal 1 0 17))) Body.nothing))))
     AreItems.nothing
 
-in_form : (bytes : List ℕ) → bytes ≡ codes "main" → is_in_form (name bytes) ≡ true
-in_form bytes e = subst (λ bytes. is_in_form (name bytes) ≡ true) (sym e) refl
-
-pub worked_is_printable : (main : List ℕ) → main.bytes ≡ codes "main" → IsPrintable (worked_program main)
-worked_is_printable main e = record { tokens = worked_tokens main; in_form = rw (in_form main.bytes e) refl; reads = reads main }
+pub worked_is_printable : IsPrintable (worked_program (codes "main"))
+worked_is_printable = record { tokens = worked_tokens (codes "main"); in_form = refl; reads = reads (codes "main") }

@@ -1,4 +1,4 @@
 pub mod PrintedTokens
 pub mod Printing
-pub mod Examples
-pub mod Printable
+pub mod PrintedParts
+pub mod PrintedExample

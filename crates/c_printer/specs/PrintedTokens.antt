@@ -1,4 +1,4 @@
--- The tokens that a program is printed with, by structure on its tree. A word that may be left out is left out, and a
+-- Promise: the tokens that a program is printed with, by structure on its tree. A word that may be left out is left out, and a
 -- parameter list that is empty is `void`.
 use Rattle.std.specs.Prelude.{ℕ, Bool, true, false, List, [], ◌∷◌, ◌++◌, map, Option, None, Some, nat_lt, if◌then◌else◌}
 use Rattle.c_token.specs.declared.kinds.Kind.{Kind}
@@ -21,15 +21,15 @@ use Rattle.c_grammar.specs.declared.item.Kind3.TheVariants as results
 use Rattle.c_grammar.specs.declared.item.Parameter.{Parameter}
 use Rattle.c_grammar.specs.declared.item.Value.{Value}
 
--- parts, each behind a sign `,`
-abbrev pub behind_commas : List (List Kind) → List Kind
-behind_commas [] = []
-behind_commas (part ∷ parts) = kinds.Sign signs.Comma ∷ (part ++ behind_commas parts)
+-- parts, each after a sign `,`
+abbrev pub after_commas : List (List Kind) → List Kind
+after_commas [] = []
+after_commas (part ∷ parts) = kinds.Sign signs.Comma ∷ (part ++ after_commas parts)
 
 -- parts with a sign `,` between two
 abbrev pub with_commas : List (List Kind) → List Kind
 with_commas [] = []
-with_commas (part ∷ parts) = part ++ behind_commas parts
+with_commas (part ∷ parts) = part ++ after_commas parts
 
 -- an expression, with the tokens of each expression inside it in its place
 abbrev pub expr_step : Expr-F (List Kind) → List Kind
@@ -50,12 +50,12 @@ expr_kinds = fold-Expr (List Kind) expr_step
 abbrev pub type_kind : Bool → Kind
 type_kind unsigned = kinds.Word (if unsigned then words.Unsigned else words.Int)
 
--- where a statement stands: in a block or behind `if`, `else`, `while` or `for`, or in the head of a `for`, with no sign `;` of its own there
+-- where a statement stands: in a block or after `if`, `else`, `while` or `for`, or in the head of a `for`, with no sign `;` of its own there
 pub data Standing : Type 0 where
   in_code : Standing
   in_head : Standing
 
--- the sign `;` behind a part that has none of its own in a head
+-- the sign `;` after a part that has none of its own in a head
 abbrev pub ending : Standing → List Kind
 ending in_code = kinds.Sign signs.Semicolon ∷ []
 ending in_head = []

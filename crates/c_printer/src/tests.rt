@@ -1,5 +1,5 @@
 ghost use Rattle.std.specs.Prelude.{◌≡◌, ◌<◌, IfOk};
-ghost use Rattle.c_printer.specs.Examples.{release_of, worked_program};
+ghost use Rattle.c_printer.specs.PrintedExample.{release_of, worked_program};
 
 use crate::print_program;
 use aegis_num::Name;
@@ -53,8 +53,7 @@ fn worked(alloc: Global, main: Name) -> Result<Program, AllocError>
 
 #[test]
 fn prints_a_program(rt: HostRuntime) -> Result<(), Fail> {
-    let main = Name::from("main").ok().expect(&rt, "short");
-    let program = worked(rt.alloc(), main)?;
+    let program = worked(rt.alloc(), Name::new(b"main"))?;
     let text = print_program(rt.alloc(), &program)?;
     let printed = "int main ( void ) { release ( 72 ) ; release ( 105 ) ; return 0 ; }";
     assert!(rt; text.as_slice() == printed.as_bytes());

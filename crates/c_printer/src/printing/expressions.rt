@@ -1,7 +1,7 @@
 //! Expressions as texts.
 ghost use Rattle.std.specs.Prelude.{◌≡◌, ◌++◌, OnOk};
 ghost use Rattle.c_printer.specs.PrintedTokens.{expr_kinds, arguments_kinds};
-ghost use Rattle.c_printer.specs.Printing.{spelled_all};
+ghost use Rattle.c_printer.specs.PrintedParts.{spaced_tokens};
 
 use crate::printing::Printer;
 use c_grammar::Expr;
@@ -13,7 +13,7 @@ impl Printer {
     #[cycle(expressions)]
     pub fn expr(&mut self, expr: &Expr) -> Result<(), AllocError>
         ensures { OnOk result (self.new.text.items
-            ≡ self.old.text.items ++ spelled_all (expr_kinds expr.now)) }
+            ≡ self.old.text.items ++ spaced_tokens (expr_kinds expr.now)) }
     {
         match expr {
             Expr::Number {
@@ -67,7 +67,7 @@ impl Printer {
     #[cycle(expressions)]
     pub fn arguments(&mut self, arguments: &[Expr]) -> Result<(), AllocError>
         ensures { OnOk result (self.new.text.items
-            ≡ self.old.text.items ++ spelled_all (arguments_kinds arguments.now)) }
+            ≡ self.old.text.items ++ spaced_tokens (arguments_kinds arguments.now)) }
     {
         self.sign(Sign::LeftParenthesis)?;
         for (i, argument) in arguments.iter().enumerate() {

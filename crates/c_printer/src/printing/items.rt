@@ -4,7 +4,7 @@ ghost use Rattle.c_token.specs.declared.Kind.TheVariants as kinds;
 ghost use Rattle.c_token.specs.declared.Word.TheVariants as words;
 ghost use Rattle.c_token.specs.declared.Sign.TheVariants as signs;
 ghost use Rattle.c_printer.specs.PrintedTokens.{items_kinds, item_kinds, storage_kinds, length_kinds, value_kinds, values_kinds, result_kind, parameter_kinds, parameters_kinds, with_commas};
-ghost use Rattle.c_printer.specs.Printing.{spelled, spelled_all, untrusted_kinds};
+ghost use Rattle.c_printer.specs.PrintedParts.{spaced_token, spaced_tokens, untrusted_kinds};
 
 use crate::printing::Printer;
 use aegis_num::Name;
@@ -19,7 +19,7 @@ impl Printer {
     /// Declarations, one after another.
     pub fn items(&mut self, items: &[Item]) -> Result<(), AllocError>
         ensures { OnOk result (self.new.text.items
-            ≡ self.old.text.items ++ spelled_all (items_kinds items.now)) }
+            ≡ self.old.text.items ++ spaced_tokens (items_kinds items.now)) }
     {
         for item in items {
             self.item(item)?;
@@ -30,7 +30,7 @@ impl Printer {
     /// A declaration.
     fn item(&mut self, item: &Item) -> Result<(), AllocError>
         ensures { OnOk result (self.new.text.items
-            ≡ self.old.text.items ++ spelled_all (item_kinds item.now)) }
+            ≡ self.old.text.items ++ spaced_tokens (item_kinds item.now)) }
     {
         match item {
             Item::Object {
@@ -83,7 +83,7 @@ impl Printer {
     /// The word of a class, left out where it may be.
     fn storage(&mut self, class: Storage) -> Result<(), AllocError>
         ensures { OnOk result (self.new.text.items
-            ≡ self.old.text.items ++ spelled_all (storage_kinds class)) }
+            ≡ self.old.text.items ++ spaced_tokens (storage_kinds class)) }
     {
         match class {
             Storage::Verified => Ok(()),
@@ -96,7 +96,7 @@ impl Printer {
     /// The length of an array between brackets, where it stands.
     fn length(&mut self, length: Option<u32>) -> Result<(), AllocError>
         ensures { OnOk result (self.new.text.items
-            ≡ self.old.text.items ++ spelled_all (length_kinds length)) }
+            ≡ self.old.text.items ++ spaced_tokens (length_kinds length)) }
     {
         match length {
             Some(length) => {
@@ -111,7 +111,7 @@ impl Printer {
     /// The values of a constant, between braces or not.
     fn values(&mut self, values: &[Value], braces: bool) -> Result<(), AllocError>
         ensures { OnOk result (self.new.text.items
-            ≡ self.old.text.items ++ spelled_all (values_kinds braces values.now)) }
+            ≡ self.old.text.items ++ spaced_tokens (values_kinds braces values.now)) }
     {
         if braces {
             self.sign(Sign::LeftBrace)?;
@@ -124,7 +124,7 @@ impl Printer {
     /// Values with a sign `,` between two.
     fn listed_values(&mut self, values: &[Value]) -> Result<(), AllocError>
         ensures { OnOk result (self.new.text.items ≡ self.old.text.items
-            ++ spelled_all (with_commas (map value_kinds values.now))) }
+            ++ spaced_tokens (with_commas (map value_kinds values.now))) }
     {
         for (i, value) in values.iter().enumerate() {
             self.comma_before(i)?;
@@ -136,7 +136,7 @@ impl Printer {
     /// A value of a constant.
     fn value(&mut self, value: Value) -> Result<(), AllocError>
         ensures { OnOk result (self.new.text.items
-            ≡ self.old.text.items ++ spelled_all (value_kinds value)) }
+            ≡ self.old.text.items ++ spaced_tokens (value_kinds value)) }
     {
         if value.negative {
             self.sign(Sign::Minus)?;
@@ -148,7 +148,7 @@ impl Printer {
     /// A function of the untrusted code.
     fn untrusted(&mut self, name: &Name) -> Result<(), AllocError>
         ensures { OnOk result (self.new.text.items
-            ≡ self.old.text.items ++ spelled_all (untrusted_kinds name.now)) }
+            ≡ self.old.text.items ++ spaced_tokens (untrusted_kinds name.now)) }
     {
         self.word(Word::Untrusted)?;
         self.word(Word::Void)?;
@@ -160,7 +160,7 @@ impl Printer {
     /// `(void)`
     fn no_parameters(&mut self) -> Result<(), AllocError>
         ensures { OnOk result (self.new.text.items
-            ≡ self.old.text.items ++ spelled_all (parameters_kinds [])) }
+            ≡ self.old.text.items ++ spaced_tokens (parameters_kinds [])) }
     {
         self.sign(Sign::LeftParenthesis)?;
         self.word(Word::Void)?;
@@ -170,7 +170,7 @@ impl Printer {
     /// The word `__private` before a function, where it stands.
     fn private(&mut self, private: bool) -> Result<(), AllocError>
         ensures { OnOk result (self.new.text.items ≡ self.old.text.items
-            ++ spelled_all (if private then kinds.Word words.Private ∷ [] else [])) }
+            ++ spaced_tokens (if private then kinds.Word words.Private ∷ [] else [])) }
     {
         if private {
             return self.word(Word::Private);
@@ -181,7 +181,7 @@ impl Printer {
     /// What a function answers.
     fn answer(&mut self, answer: Kind3) -> Result<(), AllocError>
         ensures { OnOk result (self.new.text.items
-            ≡ self.old.text.items ++ spelled (result_kind answer)) }
+            ≡ self.old.text.items ++ spaced_token (result_kind answer)) }
     {
         match answer {
             Kind3::Int => self.word(Word::Int),
@@ -193,7 +193,7 @@ impl Printer {
     /// The parameters of a function between parentheses.
     fn parameters(&mut self, parameters: &[Parameter]) -> Result<(), AllocError>
         ensures { OnOk result (self.new.text.items
-            ≡ self.old.text.items ++ spelled_all (parameters_kinds parameters.now)) }
+            ≡ self.old.text.items ++ spaced_tokens (parameters_kinds parameters.now)) }
     {
         if parameters.is_empty() {
             return self.no_parameters();
@@ -206,7 +206,7 @@ impl Printer {
     /// Parameters with a sign `,` between two.
     fn listed_parameters(&mut self, parameters: &[Parameter]) -> Result<(), AllocError>
         ensures { OnOk result (self.new.text.items ≡ self.old.text.items
-            ++ spelled_all (with_commas (map parameter_kinds parameters.now))) }
+            ++ spaced_tokens (with_commas (map parameter_kinds parameters.now))) }
     {
         for (i, parameter) in parameters.iter().enumerate() {
             self.comma_before(i)?;

@@ -4,7 +4,7 @@ ghost use Rattle.c_token.specs.declared.Kind.TheVariants as kinds;
 ghost use Rattle.c_token.specs.declared.Word.TheVariants as words;
 ghost use Rattle.c_token.specs.declared.Sign.TheVariants as signs;
 ghost use Rattle.c_printer.specs.PrintedTokens.{in_code, in_head, stmt_kinds, expr_kinds, type_kind, arguments_kinds, initial_kinds, maybe_kinds, subscript_kinds, block_kinds, head_kinds, else_kinds};
-ghost use Rattle.c_printer.specs.Printing.{spelled_all, no_arguments, between, head_begin_kinds, head_end_kinds};
+ghost use Rattle.c_printer.specs.PrintedParts.{spaced_tokens, no_arguments, between, head_begin_kinds, head_end_kinds};
 
 use crate::printing::Printer;
 use aegis_num::Name;
@@ -18,7 +18,7 @@ impl Printer {
     #[cycle(statements)]
     fn statement(&mut self, stmt: &Stmt) -> Result<(), AllocError>
         ensures { OnOk result (self.new.text.items
-            ≡ self.old.text.items ++ spelled_all (stmt_kinds stmt.now in_code)) }
+            ≡ self.old.text.items ++ spaced_tokens (stmt_kinds stmt.now in_code)) }
     {
         match stmt {
             Stmt::Block { body, .. } => self.block(body.as_slice()),
@@ -103,7 +103,7 @@ impl Printer {
     #[cycle(statements)]
     pub fn block(&mut self, body: &[Stmt]) -> Result<(), AllocError>
         ensures { OnOk result (self.new.text.items
-            ≡ self.old.text.items ++ spelled_all (block_kinds body.now)) }
+            ≡ self.old.text.items ++ spaced_tokens (block_kinds body.now)) }
     {
         self.sign(Sign::LeftBrace)?;
         for stmt in body {
@@ -116,7 +116,7 @@ impl Printer {
     #[cycle(statements)]
     fn alternative(&mut self, other: &Option<Boxed<Stmt>>) -> Result<(), AllocError>
         ensures { OnOk result (self.new.text.items ≡ self.old.text.items
-            ++ spelled_all (else_kinds (option_map stmt_kinds other.now))) }
+            ++ spaced_tokens (else_kinds (option_map stmt_kinds other.now))) }
     {
         match other {
             Some(other) => {
@@ -131,7 +131,7 @@ impl Printer {
     #[cycle(statements)]
     fn head_begin(&mut self, first: &Option<Boxed<Stmt>>) -> Result<(), AllocError>
         ensures { OnOk result (self.new.text.items ≡ self.old.text.items
-            ++ spelled_all (head_begin_kinds (head_kinds (option_map stmt_kinds first.now)))) }
+            ++ spaced_tokens (head_begin_kinds (head_kinds (option_map stmt_kinds first.now)))) }
     {
         self.word(Word::For)?;
         self.sign(Sign::LeftParenthesis)?;
@@ -139,14 +139,14 @@ impl Printer {
         self.sign(Sign::Semicolon)
     }
 
-    /// The head of a `for` behind its first sign `;`.
+    /// The head of a `for` after its first sign `;`.
     #[cycle(statements)]
     fn head_end(
         &mut self,
         test: &Option<Expr>,
         step: &Option<Boxed<Stmt>>,
     ) -> Result<(), AllocError>
-        ensures { OnOk result (self.new.text.items ≡ self.old.text.items ++ spelled_all
+        ensures { OnOk result (self.new.text.items ≡ self.old.text.items ++ spaced_tokens
             (head_end_kinds test.now (head_kinds (option_map stmt_kinds step.now)))) }
     {
         self.maybe(test)?;
@@ -159,7 +159,7 @@ impl Printer {
     #[cycle(statements)]
     fn head_part(&mut self, part: &Option<Boxed<Stmt>>) -> Result<(), AllocError>
         ensures { OnOk result (self.new.text.items ≡ self.old.text.items
-            ++ spelled_all (head_kinds (option_map stmt_kinds part.now))) }
+            ++ spaced_tokens (head_kinds (option_map stmt_kinds part.now))) }
     {
         match part {
             Some(part) => self.simple(part.get()),
@@ -171,7 +171,7 @@ impl Printer {
     #[cycle(statements)]
     fn simple(&mut self, stmt: &Stmt) -> Result<(), AllocError>
         ensures { OnOk result (self.new.text.items
-            ≡ self.old.text.items ++ spelled_all (stmt_kinds stmt.now in_head)) }
+            ≡ self.old.text.items ++ spaced_tokens (stmt_kinds stmt.now in_head)) }
     {
         match stmt {
             Stmt::Local {
@@ -204,7 +204,7 @@ impl Printer {
     /// A local.
     fn local(&mut self, unsigned: bool, name: &Name, value: &Option<Expr>) -> Result<(), AllocError>
         ensures { OnOk result (self.new.text.items ≡ self.old.text.items
-            ++ spelled_all (type_kind unsigned ∷ kinds.Name name.now ∷ initial_kinds value.now)) }
+            ++ spaced_tokens (type_kind unsigned ∷ kinds.Name name.now ∷ initial_kinds value.now)) }
     {
         self.type_word(unsigned)?;
         self.name(name)?;
@@ -218,7 +218,7 @@ impl Printer {
     /// An assignment.
     fn assign(&mut self, name: &Name, index: &Option<Expr>, value: &Expr) -> Result<(), AllocError>
         ensures { OnOk result (self.new.text.items ≡ self.old.text.items
-            ++ spelled_all (kinds.Name name.now ∷ (subscript_kinds index.now
+            ++ spaced_tokens (kinds.Name name.now ∷ (subscript_kinds index.now
             ++ kinds.Sign signs.Assign ∷ expr_kinds value.now))) }
     {
         self.name(name)?;
@@ -230,7 +230,7 @@ impl Printer {
     /// An index between brackets, where it stands.
     fn subscript(&mut self, index: &Option<Expr>) -> Result<(), AllocError>
         ensures { OnOk result (self.new.text.items
-            ≡ self.old.text.items ++ spelled_all (subscript_kinds index.now)) }
+            ≡ self.old.text.items ++ spaced_tokens (subscript_kinds index.now)) }
     {
         match index {
             Some(index) => {
@@ -245,7 +245,7 @@ impl Printer {
     /// `check()`
     fn check(&mut self) -> Result<(), AllocError>
         ensures { OnOk result (self.new.text.items ≡ self.old.text.items
-            ++ spelled_all (kinds.Word words.Check ∷ no_arguments)) }
+            ++ spaced_tokens (kinds.Word words.Check ∷ no_arguments)) }
     {
         self.word(Word::Check)?;
         self.sign(Sign::LeftParenthesis)?;
@@ -255,7 +255,7 @@ impl Printer {
     /// A word and an expression between parentheses.
     fn tested(&mut self, word: Word, value: &Expr) -> Result<(), AllocError>
         ensures { OnOk result (self.new.text.items ≡ self.old.text.items
-            ++ spelled_all (kinds.Word word ∷ between (expr_kinds value.now))) }
+            ++ spaced_tokens (kinds.Word word ∷ between (expr_kinds value.now))) }
     {
         self.word(word)?;
         self.sign(Sign::LeftParenthesis)?;
@@ -266,7 +266,7 @@ impl Printer {
     /// An expression, where it stands.
     fn maybe(&mut self, value: &Option<Expr>) -> Result<(), AllocError>
         ensures { OnOk result (self.new.text.items
-            ≡ self.old.text.items ++ spelled_all (maybe_kinds value.now)) }
+            ≡ self.old.text.items ++ spaced_tokens (maybe_kinds value.now)) }
     {
         match value {
             Some(value) => self.expr(value),

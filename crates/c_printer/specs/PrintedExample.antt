@@ -1,5 +1,5 @@
--- A worked program: `int main(void){release(72);release(105);return 0;}`.
-use Rattle.std.specs.Prelude.{ℕ, ◌+◌, false, [], ◌∷◌, Some}
+-- Device: a worked program, `int main(void){release(72);release(105);return 0;}`, which a test prints.
+use Rattle.std.specs.Prelude.{ℕ, ◌+◌, false, List, [], ◌∷◌, Some}
 use Rattle.c_grammar.specs.declared.expr.Expr.TheVariants.{Number}
 use Rattle.c_grammar.specs.declared.Stmt.{Stmt}
 use Rattle.c_grammar.specs.declared.stmt.Stmt.TheVariants.{Release, Return}
