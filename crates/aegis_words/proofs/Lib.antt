@@ -1,0 +1,2 @@
+mod NumberWordLemmas
+mod WordExamples

@@ -1,0 +1,29 @@
+-- Device: what the code keeps of the words.
+use Rattle.aegis_words.specs.declared.run.RunWords.{RunWords}
+use Rattle.aegis_words.specs.declared.mean.MeanWords.{MeanWords}
+use Rattle.aegis_words.specs.declared.table.Command.{Command as CommandWords}
+use Rattle.aegis_words.specs.declared.table.Command.TheVariants as words
+use Rattle.aegis_words.specs.RunWordRow.{RunNames}
+use Rattle.aegis_words.specs.MeanWordRow.{MeanNames}
+use Rattle.aegis_words.specs.CommandTable.{Command}
+use Rattle.aegis_words.specs.CommandTable as asks
+
+-- the names among the words of a run
+abbrev pub names_of : RunWords → RunNames
+names_of words = record {
+  source = words.source.now;
+  script = words.script.now;
+  input = words.input.now;
+  fuel = words.fuel;
+  key = words.key;
+  nonce = words.nonce;
+}
+
+-- the names among the words of a `mean`
+abbrev pub mean_names_of : MeanWords → MeanNames
+mean_names_of words = record { source = words.source.now; input = words.input.now; turns = words.turns }
+
+-- what the code keeps of the words, as the command that they are
+abbrev pub command_of : CommandWords → Command
+command_of (words.Run names) = asks.Run (names_of names)
+command_of (words.Mean names) = asks.Mean (mean_names_of names)

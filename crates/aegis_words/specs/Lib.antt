@@ -1,0 +1,6 @@
+pub mod CommandTable
+pub mod FileSteps
+pub mod KeptWords
+pub mod MeanWordRow
+pub mod NumberWords
+pub mod RunWordRow

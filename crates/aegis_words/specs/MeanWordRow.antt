@@ -1,0 +1,29 @@
+-- Promise: the words of a `mean`, and the files that it reads.
+use Rattle.std.specs.Prelude.{ℕ, if◌then◌else◌, List, [], ◌∷◌, codes, Option, None, Some}
+use Rattle.std.specs.Str.{bytes_eq}
+use Rattle.aegis_words.specs.declared.file.File.TheVariants.{Source, Input}
+use Rattle.aegis_words.specs.FileSteps.{Step}
+use Rattle.aegis_words.specs.NumberWords.{bound_in}
+
+-- the names of the files that a `mean` reads, and the most loop turns
+pub record MeanNames : Type 0 where
+  pub source : List ℕ
+  pub input : List ℕ
+  pub turns : ℕ
+
+-- the names of a `mean`, where its number of turns is there
+abbrev pub mean_names : List ℕ → List ℕ → Option ℕ → Option MeanNames
+mean_names source input None = None
+mean_names source input (Some turns) = Some (record { source = source; input = input; turns = turns })
+
+-- `mean SOURCE INPUT TURNS`
+abbrev pub mean_row : List (List ℕ) → Option MeanNames
+mean_row (command ∷ source ∷ input ∷ turns ∷ []) =
+    if bytes_eq command (codes "mean") then mean_names source input (bound_in turns) else None
+mean_row words = None
+
+-- the file that a `mean` reads after these texts, the latest of them first
+abbrev pub mean_step_after : MeanNames → List (List ℕ) → Option Step
+mean_step_after names [] = Some (record { file = Source; name = names.source })
+mean_step_after names (source ∷ []) = Some (record { file = Input; name = names.input })
+mean_step_after names (input ∷ source ∷ earlier) = None

@@ -1,0 +1,13 @@
+//! The words of the command line, and the files that they name: a module for each command.
+#![tactic(auto)]
+
+mod digits;
+mod file;
+mod mean;
+mod run;
+mod table;
+
+pub use file::{File, limit};
+pub use mean::MeanWords;
+pub use run::RunWords;
+pub use table::{Command, read_command};

@@ -1,0 +1,30 @@
+//! The table of commands.
+ghost use Rattle.std.specs.Prelude.{◌≡◌};
+ghost use Rattle.std.specs.Option.{option_map};
+ghost use Rattle.aegis_words.specs.CommandTable.{command_in};
+ghost use Rattle.aegis_words.specs.KeptWords.{command_of};
+
+use crate::mean::{MeanWords, mean_words};
+use crate::run::{RunWords, run_words};
+
+/// What words ask for.
+#[derive(Clone, Copy)]
+pub enum Command<'a> {
+    /// To compile a source and to run it.
+    Run(RunWords<'a>),
+    /// To say what a source means.
+    Mean(MeanWords<'a>),
+}
+
+/// Reads the words after the program's name as a row of the table of commands.
+pub fn read_command(words: &[String]) -> Option<Command<'_>>
+    ensures { option_map command_of result ≡ command_in words.now }
+{
+    if let Some(names) = run_words(words) {
+        return Some(Command::Run(names));
+    }
+    match mean_words(words) {
+        Some(names) => Some(Command::Mean(names)),
+        None => None,
+    }
+}
