@@ -1,4 +1,5 @@
 mod Worked
+mod BareExamples
 pub mod BareForms
 pub mod BareParts
 pub mod Alike
