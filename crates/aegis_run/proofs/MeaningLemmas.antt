@@ -21,7 +21,8 @@ use Rattle.c_types.specs.declared.declaration.Declaration.{Declaration}
 use Rattle.c_types.specs.Sites.{declarations_of}
 use Rattle.c_semantics.specs.ResolvedTree as Tree
 use Rattle.c_semantics.specs.States.{Setting, State, Ended, Outcome, GoesOn, then, tick, releasing}
-use Rattle.c_semantics.specs.Meaning.{Calls, Flow, Returned, result_of, Meaning, meaning, meaning_of, first_state, no_class, no_calls, mean_alone}
+use Rattle.c_semantics.specs.Meaning.{Calls, Flow, Returned, result_of, Meaning, meaning, meaning_of, first_state, no_calls, mean_alone}
+use Rattle.regions.specs.LooseClasses.{nothing_loose}
 use Rattle.c_meaning.specs.Resolving.{Resolved, expr_step, typed, ResolvedStmt, stmt_step, resolved, body_in, number_of, main_token, program_in}
 use Rattle.aegis_run.specs.Literals.{number_in, released_by, returns_literal, body_literals, is_int, is_nothing, is_main, item_literals, items_literals, literals_of}
 use Rattle.aegis_run.proofs.LengthLemmas.{parts, where_true}
@@ -236,7 +237,7 @@ abbrev started : List Item → List ℕ → ℕ → State
 started items input turns = first_state (tree_in items) input [] turns
 
 abbrev alone : Setting
-alone = record { is_loose = no_class; is_noted = true }
+alone = record { is_loose = nothing_loose; is_noted = true }
 
 -- A function that is alone is called by its number.
 call_alone : (private : Bool) (result : Kind3) (name : ArrayString) (body : List Stmt) (token : ℕ) (literals input : List ℕ) (turns : ℕ)

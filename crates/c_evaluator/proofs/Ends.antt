@@ -4,7 +4,8 @@ use Rattle.std.specs.declared.result.Result.{Result}
 use Rattle.aegis_num.specs.declared.memory.OutOfMemory.{OutOfMemory}
 use Rattle.c_semantics.specs.ResolvedTree as Tree
 use Rattle.c_semantics.specs.States.{State, Outcome, then}
-use Rattle.c_semantics.specs.Meaning.{meaning_of, outcome_of, mean, mean_alone, no_class}
+use Rattle.c_semantics.specs.Meaning.{meaning_of, outcome_of, mean, mean_alone}
+use Rattle.regions.specs.LooseClasses.{nothing_loose}
 use Rattle.c_semantics.specs.MeaningLaws.{IsSameButNotes}
 use Rattle.c_semantics.proofs.LawProofs.{noting_changes_nothing_else}
 use Rattle.c_evaluator.specs.declared.mean_end.MeanEnd.{MeanEnd}
@@ -22,7 +23,7 @@ stays-over view view' o h fault.OutOfMemory s d = tt
 pub told : (p : Tree.Program) (input : List ℕ) (turns : ℕ) (value : Result ℕ Fault) (end : MeanEnd) (s : State) → Does (outcome_of bare p input [] turns) value s → EndsSo value (Ok end) →
     (end_of end ≡ (mean_alone p input turns).end) × ((mean_alone p input turns).traffic.bytes ≡ s.traffic.bytes)
 told p input turns value end s d e =
-    let same : IsSameButNotes (mean_alone p input turns) (mean bare p input [] turns) = noting_changes_nothing_else no_class p input [] turns in
+    let same : IsSameButNotes (mean_alone p input turns) (mean bare p input [] turns) = noting_changes_nothing_else nothing_loose p input [] turns in
     go value d e same
   where
     end_or : Result MeanEnd OutOfMemory → MeanEnd

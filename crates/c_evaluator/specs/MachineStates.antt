@@ -7,7 +7,8 @@ use Rattle.c_evaluator.specs.declared.machine.Machine.{Machine}
 use Rattle.execution.specs.Traffic.{traffic_from}
 use Rattle.c_semantics.specs.ResolvedTree as Tree
 use Rattle.c_semantics.specs.Meaning
-use Rattle.c_semantics.specs.Meaning.{no_class, first_memory}
+use Rattle.c_semantics.specs.Meaning.{first_memory}
+use Rattle.regions.specs.LooseClasses.{nothing_loose}
 use Rattle.std.proofs.Common.{Vec, Global}
 use Rattle.c_evaluator.specs.declared.flow.Flow.{Flow}
 use Rattle.c_evaluator.specs.declared.flow.Flow.TheVariants as flow
@@ -24,7 +25,7 @@ memory_of variables x i = slice_index (slice_index_or variables x []) i
 
 -- nothing is loose, and nothing is noted
 abbrev pub bare : Setting
-bare = record { is_loose = no_class; is_noted = false }
+bare = record { is_loose = nothing_loose; is_noted = false }
 
 -- what a machine keeps, as a state
 abbrev pub seen : Machine → State

@@ -137,7 +137,7 @@ impl Machine {
 
     /// A loop turn begins, if one may still begin.
     pub fn begin_turn(&mut self) -> Result<u64, Fault>
-        ensures begun { Does (begin_turn bare self.old.turns (seen self.old)) result (seen self.new) }
+        ensures begun { Does (begin_turn bare (seen self.old)) result (seen self.new) }
     {
         if self.turns == 0 {
             return Err(Fault::Turns);

@@ -6,8 +6,8 @@ use Rattle.aegis_num.specs.declared.operators.BinaryOp.{BinaryOp}
 use Rattle.aegis_num.specs.Operators.{truth, unary, binary, traps}
 use Rattle.c_semantics.specs.declared.tree.Variable.{Variable}
 use Rattle.c_semantics.specs.ResolvedTree.{Expr, Number, Scalar, Indexed, Called, Input, Unary, Binary, Both, Either, Arguments, NoArguments, Argument, Stmt, Nothing, Then, Empty, Block, Local, Assign, Store, Call, Suspend, Release, Check, Return, Break, Continue, If, While, For, Function}
-use Rattle.c_semantics.specs.States.{Setting, State, End, Index, Divide, Starved, Turns, Outcome, GoesOn, EndsAs, then, choose, is_in, element_of, kept_word, loosely, tick, with_traffic, noting, reading, writing, within, applied, taking_input, releasing, begin_turn}
-use Rattle.c_semantics.specs.Meaning.{Flow, Completed, Broke, Continued, Returned, Turn, Again, Leaves, Calls, value, values, value_or_zero, condition, after_statement, after_body, turn, after_turn, iterate, loop, completes, meaning, result_of, given, function_meaning, with_function, no_calls, calls_from, calls_of}
+use Rattle.c_semantics.specs.States.{Setting, State, End, Index, Divide, Starved, Turns, Outcome, GoesOn, EndsAs, then, choose, is_in, element_of, kept_word, loosely, tick, with_traffic, noting, reading, writing, within, applied, taking_input, releasing, turn_from, begin_turn}
+use Rattle.c_semantics.specs.Meaning.{Flow, Completed, Broke, Continued, Returned, Turn, Again, Leaves, Calls, value, values, value_or_zero, condition, after_statement, after_body, turn, after_turn, iterate, loop, holds, completes, meaning, result_of, given, function_meaning, with_function, no_calls, calls_from, calls_of}
 
 -- how two outcomes are alike: the same value or end and states in relation, or the first has used its turns and the second has gone on from there
 abbrev pub Alike : {A : Type 0} → (State → State → Type 0) → (State → State → Type 0) → Outcome A → Outcome A → Type 0
@@ -87,7 +87,7 @@ module _ (is_loose : Class → Bool) (noted noted' : Bool) (more : ℕ) (R C P :
   holds-then D E s (GoesOn v t) h p q = q v t p
   holds-then D E s (EndsAs e t) h p q = p
 
-  -- where the first has no turn left, it stays behind whatever the second does
+  -- where the first has no turn left, it stays where it is, whatever the second does
   passed-all : {A : Type 0} (s t : State) (o : Outcome A) → C s t → Holds {A = A} Plain F t o → Alike R C (EndsAs Turns s) o
   passed-all s t (GoesOn v u) c h = (refl, laws.longer s t u c h)
   passed-all s t (EndsAs e u) c h = inr (refl, laws.longer_end s t u e c h)
@@ -212,7 +212,7 @@ module _ (is_loose : Class → Bool) (noted noted' : Bool) (more : ℕ) (R C P :
 
   -- a turn that begins, and what it goes on with
   abbrev begins_with : Setting → (State → Outcome Turn) → State → Outcome Turn
-  begins_with setting rest s = then (begin_turn setting s.turns s) (λ left s'. rest s')
+  begins_with setting rest s = then (begin_turn setting s) (λ left s'. rest s')
 
   pair-begins : (rest rest' : State → Outcome Turn) → Pair Turn Plain rest rest' → Pair Turn Begun (begins_with first rest) (begins_with second rest')
   pair-begins rest rest' p = record {
@@ -224,13 +224,13 @@ module _ (is_loose : Class → Bool) (noted noted' : Bool) (more : ℕ) (R C P :
       lower s' t left (GoesOn v u) e f q h = (laws.joins s' t u q h, (let below : u.turns ≤ t.turns = laws.lowers t u h in omega (arith, below, e, f)))
       lower s' t left (EndsAs end u) e f q h = laws.ends s' t u end q h
 
-      keep : (s' : State) (n : ℕ) → s'.turns ≡ n → Holds Begun F s' (then (begin_turn second n s') (λ left t. rest' t))
+      keep : (s' : State) (n : ℕ) → s'.turns ≡ n → Holds Begun F s' (then (turn_from second n s') (λ left t. rest' t))
       keep s' zero e = laws.no_turns s' e
       keep s' (suc left) e =
           let t : State = tick second (record s' { turns = left }) in
           lower s' t left (rest' t) e refl (laws.begins s' left e) (p.keeps t)
 
-      go : (s s' : State) → R s s' → (n n' : ℕ) → s.turns ≡ n → s'.turns ≡ n' → Alike R C (then (begin_turn first n s) (λ left t. rest t)) (then (begin_turn second n' s') (λ left t. rest' t))
+      go : (s s' : State) → R s s' → (n n' : ℕ) → s.turns ≡ n → s'.turns ≡ n' → Alike R C (then (turn_from first n s) (λ left t. rest t)) (then (turn_from second n' s') (λ left t. rest' t))
       go s s' r zero zero e e' = inl (refl, r)
       go s s' r zero (suc left') e e' =
           let more_turns : s'.turns ≡ s.turns + more = laws.turns s s' r in
@@ -264,7 +264,7 @@ module _ (is_loose : Class → Bool) (noted noted' : Bool) (more : ℕ) (R C P :
   }
     where
       decide : Setting → (State → Outcome Flow) → (State → Outcome Flow) → ℕ → State → Outcome Turn
-      decide setting b st v s = choose (v == 0) (GoesOn (Leaves Completed)) (begins_with setting (λ s'. then (b s') (after_body st))) s
+      decide setting b st v s = choose (holds v) (begins_with setting (λ s'. then (b s') (after_body st))) (GoesOn (Leaves Completed)) s
 
       from : (a b : State) (o : Outcome Turn) → P a b → Holds Passed F b o → Holds Passed F a o
       from a b (GoesOn Again c) h k = (laws.joins a b c h k.0, (let below : b.turns ≤ a.turns = laws.lowers a b h in omega (arith, below, k.1)))
@@ -272,11 +272,11 @@ module _ (is_loose : Class → Bool) (noted noted' : Bool) (more : ℕ) (R C P :
       from a b (EndsAs e c) h k = laws.ends a b c e h k
 
       decides : (v : ℕ) → Pair Turn Passed (decide first body step v) (decide second body' step' v)
-      decides v = go (v == 0)
+      decides v = go (holds v)
         where
-          go : (b : Bool) → Pair Turn Passed (choose b (GoesOn (Leaves Completed)) (begins_with first (λ s. then (body s) (after_body step)))) (choose b (GoesOn (Leaves Completed)) (begins_with second (λ s. then (body' s) (after_body step'))))
-          go true = record { alike = λ s s' r. (refl, r); keeps = λ s'. laws.stays s' }
-          go false = weaken Begun Passed begun _ _ (pair-begins _ _ (pair-then body body' _ _ q (λ flow. pair-after_body step step' flow r)))
+          go : (b : Bool) → Pair Turn Passed (choose b (begins_with first (λ s. then (body s) (after_body step))) (GoesOn (Leaves Completed))) (choose b (begins_with second (λ s. then (body' s) (after_body step'))) (GoesOn (Leaves Completed)))
+          go false = record { alike = λ s s' r. (refl, r); keeps = λ s'. laws.stays s' }
+          go true = weaken Begun Passed begun _ _ (pair-begins _ _ (pair-then body body' _ _ q (λ flow. pair-after_body step step' flow r)))
 
   keep-iterate : (one' : State → Outcome Turn) → ((s' : State) → Holds Passed F s' (one' s')) → (rounds : ℕ) (s' : State) → s'.turns < rounds →
       Holds {A = Flow} Plain F s' (iterate rounds one' s')
@@ -346,9 +346,9 @@ module _ (is_loose : Class → Bool) (noted noted' : Bool) (more : ℕ) (R C P :
       pair-value (Binary at op left right) =
           pair-tick _ _ (pair-then _ _ _ _ (pair-value left) (λ v. pair-then _ _ _ _ (pair-value right) (λ w. pair-applied at op v w)))
       pair-value (Both left right) =
-          pair-tick _ _ (pair-then _ _ _ _ (pair-value left) (λ v. pair-choose (v == 0) _ _ _ _ (pair-goes 0) (pair-then _ _ _ _ (pair-value right) (λ w. pair-goes (truth (not (w == 0)))))))
+          pair-tick _ _ (pair-then _ _ _ _ (pair-value left) (λ v. pair-choose (holds v) _ _ _ _ (pair-then _ _ _ _ (pair-value right) (λ w. pair-goes (truth (holds w)))) (pair-goes 0)))
       pair-value (Either left right) =
-          pair-tick _ _ (pair-then _ _ _ _ (pair-value left) (λ v. pair-choose (v == 0) _ _ _ _ (pair-then _ _ _ _ (pair-value right) (λ w. pair-goes (truth (not (w == 0))))) (pair-goes 1)))
+          pair-tick _ _ (pair-then _ _ _ _ (pair-value left) (λ v. pair-choose (holds v) _ _ _ _ (pair-goes 1) (pair-then _ _ _ _ (pair-value right) (λ w. pair-goes (truth (holds w))))))
 
       pair-values : (es : Arguments) → Pair (List ℕ) Plain (values first calls es) (values second calls' es)
       pair-values NoArguments = pair-goes []
@@ -380,7 +380,7 @@ module _ (is_loose : Class → Bool) (noted noted' : Bool) (more : ℕ) (R C P :
     pair-meaning Break = pair-tick _ _ (pair-goes Broke)
     pair-meaning Continue = pair-tick _ _ (pair-goes Continued)
     pair-meaning (If test body other) =
-        pair-tick _ _ (pair-then _ _ _ _ (pair-value test) (λ v. pair-choose (v == 0) _ _ _ _ (pair-meaning other) (pair-meaning body)))
+        pair-tick _ _ (pair-then _ _ _ _ (pair-value test) (λ v. pair-choose (holds v) _ _ _ _ (pair-meaning body) (pair-meaning other)))
     pair-meaning (While test body) = pair-tick _ _ (pair-loop _ _ (pair-turn _ _ _ _ _ _ (pair-value test) (pair-meaning body) (pair-goes Completed)))
     pair-meaning (For start test step body) =
         pair-tick _ _ (pair-then _ _ _ _ (pair-meaning start) (λ flow. pair-loop _ _ (pair-turn _ _ _ _ _ _ (pair-condition test) (pair-meaning body) (pair-meaning step))))

@@ -1,11 +1,12 @@
--- What a program does, by its structure, over variables and arrays of words.
-use Rattle.std.specs.Prelude.{ℕ, zero, suc, ◌+◌, Bool, true, false, cond, not, ◌==◌, List, [], ◌∷◌, Option, Some, None, slice_index}
+-- Promise: what a program does, by its structure, over variables and arrays of words.
+use Rattle.std.specs.Prelude.{ℕ, zero, suc, ◌+◌, Bool, true, cond, not, ◌==◌, List, [], ◌∷◌, Option, Some, None, slice_index}
 use Rattle.execution.specs.Traffic.{Element, Entry, Traffic, traffic_from, after_check, after_suspension}
 use Rattle.aegis_num.specs.Operators.{truth, unary}
 use Rattle.c_semantics.specs.declared.tree.Variable.{Variable}
-use Rattle.regions.specs.declared.rights.Class.{Class}
 use Rattle.c_semantics.specs.ResolvedTree.{Expr, Number, Scalar, Indexed, Called, Input, Unary, Binary, Both, Either, Arguments, NoArguments, Argument, Stmt, Nothing, Then, Empty, Block, Local, Assign, Store, Call, Suspend, Release, Check, Return, Break, Continue, If, While, For, Function, Object, Program}
-use Rattle.c_semantics.specs.States.{Setting, State, End, Ended, Turns, Outcome, GoesOn, EndsAs, then, choose, tick, noting, reading, writing, within, applied, taking_input, releasing, begin_turn}
+use Rattle.regions.specs.declared.rights.Class.{Class}
+use Rattle.regions.specs.LooseClasses.{nothing_loose, shared_loose, shared_and_logged_loose}
+use Rattle.c_semantics.specs.States.{Setting, State, End, Ended, Turns, Outcome, GoesOn, EndsAs, then, then_run, choose, tick, noting, reading, writing, within, applied, taking_input, releasing, begin_turn}
 
 -- how a statement is left: for the next one, by `break`, by `continue`, or by `return` with a value
 pub data Flow : Type 0 where
@@ -14,7 +15,7 @@ pub data Flow : Type 0 where
   Continued : Flow
   Returned : (value : ℕ) → Flow
 
--- behind a turn of a loop: it goes on, or it is left
+-- after a turn of a loop: it goes on, or it is left
 pub data Turn : Type 0 where
   Again : Turn
   Leaves : Flow → Turn
@@ -23,9 +24,13 @@ pub data Turn : Type 0 where
 abbrev pub Calls : Type 0
 Calls = ℕ → List ℕ → State → Outcome ℕ
 
+-- a word other than zero holds, as a condition
+abbrev pub holds : ℕ → Bool
+holds word = not (word == 0)
+
 -- the value of an operand of `&&` or `||`
 abbrev pub truth_of : ℕ → State → Outcome ℕ
-truth_of word state = GoesOn (truth (not (word == 0))) state
+truth_of word = GoesOn (truth (holds word))
 
 -- Operands and arguments are evaluated from left to right, each expression for one unit of work. An index is tested before
 -- anything to its right is evaluated. The right side of `&&` and `||` is evaluated only where it decides.
@@ -39,18 +44,18 @@ abbrev mutual
       then (values setting calls arguments (tick setting state)) (calls function)
   value setting calls Input state = taking_input (tick setting state)
   value setting calls (Unary op inner) state =
-      then (value setting calls inner (tick setting state)) (λ v s. GoesOn (unary op v) s)
+      then (value setting calls inner (tick setting state)) (λ v. GoesOn (unary op v))
   value setting calls (Binary at op left right) state =
       then (value setting calls left (tick setting state)) (λ v s. then (value setting calls right s) (applied at op v))
   value setting calls (Both left right) state =
-      then (value setting calls left (tick setting state)) (λ v s. choose (v == 0) (GoesOn 0) (λ s'. then (value setting calls right s') truth_of) s)
+      then (value setting calls left (tick setting state)) (λ v. choose (holds v) (λ s. then (value setting calls right s) truth_of) (GoesOn 0))
   value setting calls (Either left right) state =
-      then (value setting calls left (tick setting state)) (λ v s. choose (v == 0) (λ s'. then (value setting calls right s') truth_of) (GoesOn 1) s)
+      then (value setting calls left (tick setting state)) (λ v. choose (holds v) (GoesOn 1) (λ s. then (value setting calls right s) truth_of))
 
   pub values : Setting → Calls → Arguments → State → Outcome (List ℕ)
   values setting calls NoArguments state = GoesOn [] state
   values setting calls (Argument first later) state =
-      then (value setting calls first state) (λ v s. then (values setting calls later s) (λ vs s'. GoesOn (v ∷ vs) s'))
+      then (value setting calls first state) (λ v s. then (values setting calls later s) (λ vs. GoesOn (v ∷ vs)))
 
 -- the value, or zero where there is none
 abbrev pub value_or_zero : Setting → Calls → Option Expr → State → Outcome ℕ
@@ -62,26 +67,30 @@ abbrev pub condition : Setting → Calls → Option Expr → State → Outcome �
 condition setting calls None state = GoesOn 1 state
 condition setting calls (Some e) state = value setting calls e state
 
--- what stands behind a statement runs where that was left for the next one
+-- the statement after another one runs where that one was completed
 abbrev pub after_statement : (State → Outcome Flow) → Flow → State → Outcome Flow
-after_statement second Completed state = second state
-after_statement second flow state = GoesOn flow state
+after_statement second Completed = second
+after_statement second flow = GoesOn flow
 
--- behind the body of a loop: `break` and `return` leave the loop, and else the step is made
+-- after the body of a loop: `break` and `return` leave the loop, and else the step is made
 abbrev pub after_body : (State → Outcome Flow) → Flow → State → Outcome Turn
 after_body step Broke state = GoesOn (Leaves Completed) state
 after_body step (Returned v) state = GoesOn (Leaves (Returned v)) state
-after_body step flow state = then (step state) (λ flow' s. GoesOn Again s)
+after_body step flow state = then_run (step state) (GoesOn Again)
 
--- the condition, and where it holds a turn: it begins, then the body, then the step
+-- a turn is begun; then the body, then the step
+abbrev pub made_turn : Setting → (State → Outcome Flow) → (State → Outcome Flow) → State → Outcome Turn
+made_turn setting body step state = then_run (begin_turn setting state) (λ s. then (body s) (after_body step))
+
+-- the condition, and a turn where it holds
 abbrev pub turn : Setting → (State → Outcome ℕ) → (State → Outcome Flow) → (State → Outcome Flow) → State → Outcome Turn
 turn setting test body step state =
-    then (test state) (λ v s. choose (v == 0) (GoesOn (Leaves Completed)) (λ s'. then (begin_turn setting s'.turns s') (λ left s''. then (body s'') (after_body step))) s)
+    then (test state) (λ v. choose (holds v) (made_turn setting body step) (GoesOn (Leaves Completed)))
 
--- behind a turn
+-- after a turn
 abbrev pub after_turn : (State → Outcome Flow) → Turn → State → Outcome Flow
-after_turn again Again state = again state
-after_turn again (Leaves flow) state = GoesOn flow state
+after_turn again Again = again
+after_turn again (Leaves flow) = GoesOn flow
 
 -- Turn after turn. There is one round more than turns that may begin, so a turn beyond the bound ends the run by itself, and
 -- the first case does not come.
@@ -94,7 +103,7 @@ loop one_turn state = iterate (suc state.turns) one_turn state
 
 -- a statement that goes on to the next one
 abbrev pub completes : State → Outcome Flow
-completes state = GoesOn Completed state
+completes = GoesOn Completed
 
 -- each statement for one unit of work
 abbrev pub meaning : Setting → Calls → Stmt → State → Outcome Flow
@@ -107,30 +116,30 @@ meaning setting calls (Local x e) state =
 meaning setting calls (Assign x e) state =
     then (value setting calls e (tick setting state)) (λ v s. completes (writing setting x 0 v s))
 meaning setting calls (Store at x length index e) state =
-    then (value setting calls index (tick setting state)) (λ i s. then (within at length i s) (λ i' s'. then (value setting calls e s') (λ v s''. completes (writing setting x i' v s''))))
+    then (value setting calls index (tick setting state)) (λ i s. then (within at length i s) (λ place s'. then (value setting calls e s') (λ v s''. completes (writing setting x place v s''))))
 meaning setting calls (Call function arguments) state =
-    then (values setting calls arguments (tick setting state)) (λ vs s. then (calls function vs s) (λ v s'. completes s'))
+    then (values setting calls arguments (tick setting state)) (λ vs s. then_run (calls function vs s) completes)
 meaning setting calls Suspend state = completes (noting setting after_suspension (tick setting state))
 meaning setting calls (Release e) state =
     then (value setting calls e (tick setting state)) (λ v s. completes (releasing v s))
 meaning setting calls Check state = completes (noting setting after_check (tick setting state))
 meaning setting calls (Return e) state =
-    then (value_or_zero setting calls e (tick setting state)) (λ v s. GoesOn (Returned v) s)
+    then (value_or_zero setting calls e (tick setting state)) (λ v. GoesOn (Returned v))
 meaning setting calls Break state = GoesOn Broke (tick setting state)
 meaning setting calls Continue state = GoesOn Continued (tick setting state)
 meaning setting calls (If test body other) state =
-    then (value setting calls test (tick setting state)) (λ v s. choose (v == 0) (meaning setting calls other) (meaning setting calls body) s)
+    then (value setting calls test (tick setting state)) (λ v. choose (holds v) (meaning setting calls body) (meaning setting calls other))
 meaning setting calls (While test body) state =
     loop (turn setting (value setting calls test) (meaning setting calls body) completes) (tick setting state)
 meaning setting calls (For first test step body) state =
-    then (meaning setting calls first (tick setting state)) (λ flow s. loop (turn setting (condition setting calls test) (meaning setting calls body) (meaning setting calls step)) s)
+    then_run (meaning setting calls first (tick setting state)) (loop (turn setting (condition setting calls test) (meaning setting calls body) (meaning setting calls step)))
 
 -- the value of a call: what was returned, and 0 where the function runs to its end
 abbrev pub result_of : Flow → ℕ
 result_of (Returned v) = v
 result_of flow = 0
 
--- the parameters get the arguments
+-- The parameters get the arguments. A call has as many arguments as its function has parameters, so that none is missing.
 abbrev pub given : Setting → List Variable → List ℕ → State → State
 given setting [] words state = state
 given setting (x ∷ xs) [] state = state
@@ -139,17 +148,17 @@ given setting (x ∷ xs) (word ∷ words) state = given setting xs words (writin
 -- a function is called, for one unit of work
 abbrev pub function_meaning : Setting → Calls → Function → List ℕ → State → Outcome ℕ
 function_meaning setting calls f words state =
-    then (meaning setting calls f.body (given setting f.parameters words (tick setting state))) (λ flow s. GoesOn (result_of flow) s)
+    then (meaning setting calls f.body (given setting f.parameters words (tick setting state))) (λ flow. GoesOn (result_of flow))
 
--- one function more, with this number, can be called; its body calls those before it
+-- one function more, with this number, can be called; its body calls those that could be called before
 abbrev pub with_function : Setting → Calls → ℕ → Function → Calls
-with_function setting calls number f function words state = choose (number == function) (function_meaning setting calls f words) (calls function words) state
+with_function setting calls number f function words = choose (number == function) (function_meaning setting calls f words) (calls function words)
 
--- there is no function yet
+-- There is no function yet. A call goes to a function that stands before it, so that this is never asked.
 abbrev pub no_calls : Calls
-no_calls function words state = GoesOn 0 state
+no_calls function words = GoesOn 0
 
--- the calls of these functions, each behind those that it can call, where the first has this number
+-- the calls of these functions, each after those that it can call, where the first has this number
 abbrev pub calls_from : Setting → Calls → ℕ → List Function → Calls
 calls_from setting calls number [] = calls
 calls_from setting calls number (f ∷ functions) = calls_from setting (with_function setting calls number f) (number + 1) functions
@@ -191,10 +200,18 @@ outcome_of setting program input loose turns =
 abbrev pub mean : Setting → Program → List ℕ → List (Entry Element) → ℕ → Meaning
 mean setting program input loose turns = meaning_of (outcome_of setting program input loose turns)
 
--- no class is loose
-abbrev pub no_class : Class → Bool
-no_class class = false
+-- with work, checks, suspensions and shared writes noted, these classes are loose
+abbrev pub noting_all : (Class → Bool) → Setting
+noting_all is_loose = record { is_loose = is_loose; is_noted = true }
 
--- the meaning where no class is loose: shared variables are ordinary variables that start at zero
+-- The meaning where nothing is loose: shared variables are ordinary variables that start at zero. Work and shared writes are noted.
 abbrev pub mean_alone : Program → List ℕ → ℕ → Meaning
-mean_alone program input turns = mean (record { is_loose = no_class; is_noted = true }) program input [] turns
+mean_alone program input turns = mean (noting_all nothing_loose) program input [] turns
+
+-- The meaning where the words of shared variables come from outside. Work and shared writes are noted.
+abbrev pub mean_shared : Program → List ℕ → List (Entry Element) → ℕ → Meaning
+mean_shared = mean (noting_all shared_loose)
+
+-- The meaning where those of logged variables do too, as before they are checked. Work and shared writes are noted.
+abbrev pub mean_unchecked : Program → List ℕ → List (Entry Element) → ℕ → Meaning
+mean_unchecked = mean (noting_all shared_and_logged_loose)

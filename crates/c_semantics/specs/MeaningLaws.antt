@@ -1,10 +1,10 @@
--- What follows of the meaning: of its bound on turns, of its counts, and of loose classes.
-use Rattle.std.specs.Prelude.{◌≡◌, ◌≢◌, ℕ, ◌+◌, ◌≤◌, Bool, true, false, List, []}
+-- Promise: what follows of the meaning: of its bound on turns, of its counts, and of loose classes.
+use Rattle.std.specs.Prelude.{◌≡◌, ◌≢◌, ℕ, ◌+◌, ◌≤◌, Bool, false, List, []}
 use Rattle.execution.specs.Traffic.{Element, Entry, Extends}
 use Rattle.regions.specs.declared.rights.Class.{Class}
 use Rattle.c_semantics.specs.ResolvedTree.{Stmt, Function, Program}
 use Rattle.c_semantics.specs.States.{Setting, State, Turns, EndsAs, last_state}
-use Rattle.c_semantics.specs.Meaning.{Meaning, meaning, calls_of, outcome_of, mean}
+use Rattle.c_semantics.specs.Meaning.{Meaning, meaning, calls_of, outcome_of, mean, noting_all}
 
 -- more turns change nothing once the run ended
 abbrev pub MoreTurns : Type 0
@@ -36,14 +36,11 @@ abbrev pub OnlyAdds : Type 0
 OnlyAdds = (setting : Setting) (functions : List Function) (statement : Stmt) (state : State) →
     Later state (last_state (meaning setting (calls_of setting functions) statement state))
 
--- the program of a setting with no loose class, with all noted or not
-abbrev pub noting_all : (Class → Bool) → Setting
-noting_all is_loose = record { is_loose = is_loose; is_noted = true }
-
+-- these classes are loose, and nothing is noted
 abbrev pub noting_none : (Class → Bool) → Setting
 noting_none is_loose = record { is_loose = is_loose; is_noted = false }
 
--- the same but for work, checks, suspensions and writes
+-- they agree but for work, checks, suspensions and writes
 pub record IsSameButNotes (one other : Meaning) : Type 0 where
   pub end : one.end ≡ other.end
   pub bytes : one.traffic.bytes ≡ other.traffic.bytes

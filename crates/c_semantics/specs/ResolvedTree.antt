@@ -1,4 +1,4 @@
--- Programs whose names are resolved. A variable is named by the token of its declaration, a function by its number among the
+-- Promise: programs whose names are resolved. A variable is named by the token of its declaration, a function by its number among the
 -- functions of the source, from 0, and each operator has the types of its operands. Parentheses are gone.
 use Rattle.std.specs.Prelude.{ℕ, Bool, List, Option}
 use Rattle.aegis_num.specs.declared.operators.BinaryOp.{BinaryOp}
@@ -27,7 +27,7 @@ mutual
 pub data Stmt : Type 0 where
   -- no statement, as in the place of an `else` that does not stand
   Nothing : Stmt
-  -- one behind the other
+  -- one after the other
   Then : (first second : Stmt) → Stmt
   Empty : Stmt
   Block : (body : Stmt) → Stmt

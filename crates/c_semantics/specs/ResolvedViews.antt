@@ -1,4 +1,4 @@
--- The programs that the code keeps, as those of the definitions.
+-- Promise: the programs that the code keeps, as those of the definitions.
 use Rattle.std.specs.Prelude.{ℕ, List, [], ◌∷◌, Option, Some, None}
 use Rattle.c_semantics.specs.declared.tree.Expr.{Expr}
 use Rattle.c_semantics.specs.declared.tree.Expr.TheOpen.{Expr-F}
@@ -42,7 +42,7 @@ abbrev pub part_of : Option Expr → Option Tree.Expr
 part_of None = None
 part_of (Some e) = Some (expr_of e)
 
--- statements, one behind the other
+-- statements, one after the other
 abbrev pub in_turn : List Tree.Stmt → Tree.Stmt
 in_turn [] = Tree.Nothing
 in_turn (s ∷ ss) = Tree.Then s (in_turn ss)
@@ -73,7 +73,7 @@ stmt_step (Stmt-F.For first test step body) = Tree.For (stmt_or_nothing first) (
 abbrev pub stmt_of : Stmt → Tree.Stmt
 stmt_of = fold-Stmt Tree.Stmt stmt_step
 
--- statements, one behind the other
+-- statements, one after the other
 abbrev pub stmts_of : List Stmt → Tree.Stmt
 stmts_of [] = Tree.Nothing
 stmts_of (s ∷ ss) = Tree.Then (stmt_of s) (stmts_of ss)
