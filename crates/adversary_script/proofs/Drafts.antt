@@ -13,9 +13,9 @@ use Rattle.adversary_script.specs.declared.change.Change.{Change}
 use Rattle.adversary_script.specs.declared.latest.Latest.{Latest}
 use Rattle.adversary_script.specs.declared.fault.Fault.{Fault}
 use Rattle.adversary_script.specs.declared.fault.Fault.TheVariants.{Range, Order, TooMany}
-use Rattle.adversary_script.specs.Rules.{is_in_range, may_precede, bytes_written, all_bytes_written, are_in_order}
-use Rattle.adversary_script.specs.Grammar.{is_in_order, has_room, ruled}
-use Rattle.adversary_script.specs.Latest.{reaches, allows, latest_with, IsDraft}
+use Rattle.adversary_script.specs.ScriptRules.{is_in_range, may_precede, bytes_written, all_bytes_written, are_in_order}
+use Rattle.adversary_script.specs.ScriptGrammar.{is_in_order, has_room, ruled}
+use Rattle.adversary_script.specs.LatestMoments.{reaches, allows, latest_with, IsDraft}
 
 and-true : (b : Bool) → (b && true) ≡ b
 and-true true = refl

@@ -11,8 +11,8 @@ use Rattle.adversary_script.specs.declared.error.ScriptError.{ScriptError}
 use Rattle.adversary_script.specs.declared.error.ScriptError.TheVariants as error
 use Rattle.adversary_script.specs.declared.fault.Fault.{Fault}
 use Rattle.adversary_script.specs.declared.fault.Fault.TheVariants.{Line, Number, Hex, Range, Order, TooMany, OutOfMemory}
-use Rattle.adversary_script.specs.Grammar.{fault_at, read_line, and_then, changes_from}
-use Rattle.adversary_script.specs.Views.{IsFault}
+use Rattle.adversary_script.specs.ScriptGrammar.{fault_at, read_line, and_then, changes_from}
+use Rattle.adversary_script.specs.FormMeanings.{IsFault}
 
 -- a line feed
 abbrev is_feed : ℕ → Bool

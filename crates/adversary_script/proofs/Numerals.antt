@@ -12,7 +12,7 @@ use Rattle.std.proofs.lemmas.Bool.{cases_lt, cond-true, cond-false, and_parts}
 use Rattle.std.proofs.lemmas.Bool.Decides.{nat_tests}
 use Rattle.std.proofs.lemmas.Str.{IsUtf8-from_ascii}
 use Rattle.std.proofs.lemmas.Str.Ascii.{IsAscii-nil, IsAscii-cons}
-use Rattle.adversary_script.specs.Fields.{is_numeral, below_limit}
+use Rattle.adversary_script.specs.LineFields.{is_numeral, below_limit}
 
 -- digits are a text
 digit_ascii : (base c : ℕ) → base ≤ 36 → digit_value c < base → c < 128

@@ -1,6 +1,6 @@
-pub mod Rules
-pub mod Fields
-pub mod Forms
-pub mod Grammar
-pub mod Views
-pub mod Latest
+pub mod ScriptRules
+pub mod LineFields
+pub mod LineForms
+pub mod ScriptGrammar
+pub mod FormMeanings
+pub mod LatestMoments

@@ -80,7 +80,7 @@ pub struct Change {
 
 impl What {
     ghost use Rattle.std.specs.Prelude.{◌≡◌};
-    ghost use Rattle.adversary_script.specs.Rules.{is_in_range, bytes_written};
+    ghost use Rattle.adversary_script.specs.ScriptRules.{is_in_range, bytes_written};
 
     /// Whether its bytes stay among the open ones or in their block, and its slot is one of those that there are.
     pub fn is_in_range(&self) -> bool

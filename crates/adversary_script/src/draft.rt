@@ -1,7 +1,7 @@
 //! The changes of the lines that were read.
 ghost use Rattle.std.specs.Prelude.{◌≡◌, [], ◌∷◌, ◌++◌, OnOk, OnErr, IfErr};
-ghost use Rattle.adversary_script.specs.Grammar.{ruled};
-ghost use Rattle.adversary_script.specs.Views.{IsFault};
+ghost use Rattle.adversary_script.specs.ScriptGrammar.{ruled};
+ghost use Rattle.adversary_script.specs.FormMeanings.{IsFault};
 
 use crate::change::Change;
 use crate::fault::Fault;
@@ -22,7 +22,7 @@ pub struct Draft {
 impl Model for Draft {
     ghost use Rattle.std.specs.Prelude.{List};
     ghost use Rattle.adversary_script.specs.declared.change.Change.{Change};
-    ghost use Rattle.adversary_script.specs.Latest.{IsDraft};
+    ghost use Rattle.adversary_script.specs.LatestMoments.{IsDraft};
 
     ghost Value = { List Change };
 
@@ -47,7 +47,7 @@ impl Draft {
     }
 
     /// Whether a change keeps the rules behind these.
-    #[tactic(auto, unfolding(crate::specs::Grammar::ruled))]
+    #[tactic(auto, unfolding(crate::specs::ScriptGrammar::ruled))]
     fn rule(&self, change: &Change) -> Result<(), Fault>
         ensures { result ≡ ruled self.now change.now }
     {

@@ -18,7 +18,7 @@ pub enum Fault {
 }
 
 impl Fault {
-    ghost use Rattle.adversary_script.specs.Grammar.{fault_at};
+    ghost use Rattle.adversary_script.specs.ScriptGrammar.{fault_at};
 
     /// The fault of the line with this number.
     pub fn at_line(self, n: u32) -> ScriptError

@@ -3,9 +3,9 @@ ghost use Rattle.std.specs.Prelude.{◌≡◌, ◌≤◌, IfOk};
 ghost use Rattle.std.specs.Str.Parse.{IsNumeral, digits_value};
 ghost use Rattle.std.specs.List.{list_all};
 ghost use Rattle.std.specs.Char.{is_ascii_digit, is_ascii_hexdigit};
-ghost use Rattle.adversary_script.specs.Fields.{is_line_byte, is_separator, fields_of, is_numeral, below_limit, number_in, number_of};
-ghost use Rattle.adversary_script.specs.Grammar.{number, hex as hex_bytes};
-ghost use Rattle.adversary_script.specs.Views.{texts, Gives};
+ghost use Rattle.adversary_script.specs.LineFields.{is_line_byte, is_separator, fields_of, is_numeral, below_limit, number_in, numeral_value};
+ghost use Rattle.adversary_script.specs.ScriptGrammar.{number, hex as hex_bytes};
+ghost use Rattle.adversary_script.specs.FormMeanings.{texts, Gives};
 
 use crate::bytes::Bytes;
 use crate::fault::Fault;
@@ -91,9 +91,9 @@ fn hexadecimal(digits: &[u8]) -> Option<u32>
 }
 
 /// The number that a field writes: decimal digits, or `0x` and hexadecimal ones.
-#[tactic(auto, unfolding(crate::specs::Fields::number_of))]
-fn number_of(field: &[u8]) -> Option<u32>
-    ensures { result ≡ number_of field.now }
+#[tactic(auto, unfolding(crate::specs::LineFields::numeral_value))]
+fn numeral_value(field: &[u8]) -> Option<u32>
+    ensures { result ≡ numeral_value field.now }
 {
     if field.starts_with(b"0x") {
         hexadecimal(&field[2..])
@@ -106,7 +106,7 @@ fn number_of(field: &[u8]) -> Option<u32>
 pub fn number(field: &[u8]) -> Result<u32, Fault>
     ensures { result ≡ number field.now }
 {
-    number_of(field).ok_or(Fault::Number)
+    numeral_value(field).ok_or(Fault::Number)
 }
 
 /// The bytes that a field has to write, as pairs of hexadecimal digits.

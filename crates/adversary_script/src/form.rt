@@ -1,8 +1,8 @@
 //! The words of a line, and where its numbers and its bytes stand.
 ghost use Rattle.std.specs.Prelude.{◌≡◌, option_map};
 ghost use Rattle.std.specs.Str.{bytes_eq};
-ghost use Rattle.adversary_script.specs.Forms.{kind_of, block_form, four_fields, change_form, line_form};
-ghost use Rattle.adversary_script.specs.Views.{texts, block_of, change_of, line_of};
+ghost use Rattle.adversary_script.specs.LineForms.{kind_of, block_form, four_fields, change_form, line_form};
+ghost use Rattle.adversary_script.specs.FormMeanings.{texts, block_of, change_of, line_of};
 
 /// A kind of block.
 #[derive(Clone, Copy)]
@@ -72,7 +72,7 @@ fn is_word(field: &[u8], word: &str) -> bool
 }
 
 /// The kind of block that a word names.
-#[tactic(auto, unfolding(crate::specs::Forms::kind_of))]
+#[tactic(auto, unfolding(crate::specs::LineForms::kind_of))]
 fn kind_of(word: &[u8]) -> Option<Kind>
     ensures { result ≡ kind_of word.now }
 {
@@ -90,7 +90,7 @@ fn kind_of(word: &[u8]) -> Option<Kind>
 }
 
 /// The block that a word and a field name.
-#[tactic(auto, unfolding(crate::specs::Forms::block_form))]
+#[tactic(auto, unfolding(crate::specs::LineForms::block_form))]
 fn block_form<'a>(word: &[u8], number: &'a [u8]) -> Option<Block<'a>>
     ensures { option_map block_of result ≡ block_form word.now number.now }
 {
@@ -99,7 +99,7 @@ fn block_form<'a>(word: &[u8], number: &'a [u8]) -> Option<Block<'a>>
 }
 
 /// A change with four fields.
-#[tactic(auto, unfolding(crate::specs::Forms::four_fields))]
+#[tactic(auto, unfolding(crate::specs::LineForms::four_fields))]
 fn four_fields<'a>(
     word: &[u8],
     first: &'a [u8],
@@ -125,7 +125,7 @@ fn four_fields<'a>(
 }
 
 /// The change that these fields write.
-#[tactic(auto, unfolding(crate::specs::Forms::change_form, crate::specs::Forms::copy_of))]
+#[tactic(auto, unfolding(crate::specs::LineForms::change_form, crate::specs::LineForms::copy_of))]
 fn change_form<'a>(fields: &[&'a [u8]]) -> Option<Form<'a>>
     ensures { option_map change_of result ≡ change_form (texts fields.now) }
 {
@@ -143,7 +143,7 @@ fn change_form<'a>(fields: &[&'a [u8]]) -> Option<Form<'a>>
 }
 
 /// The line that these fields write.
-#[tactic(auto, unfolding(crate::specs::Forms::line_form, crate::specs::Forms::numbered, crate::specs::Forms::behind))]
+#[tactic(auto, unfolding(crate::specs::LineForms::line_form, crate::specs::LineForms::numbered, crate::specs::LineForms::moment_with))]
 pub fn line_form<'a>(fields: &[&'a [u8]]) -> Option<Line<'a>>
     ensures { option_map line_of result ≡ line_form (texts fields.now) }
 {

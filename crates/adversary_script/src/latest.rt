@@ -1,6 +1,6 @@
 //! The latest moments of changes.
 ghost use Rattle.std.specs.Prelude.{◌≡◌};
-ghost use Rattle.adversary_script.specs.Latest.{reaches};
+ghost use Rattle.adversary_script.specs.LatestMoments.{reaches};
 
 use crate::change::When;
 
@@ -23,7 +23,7 @@ fn reaches(last: Option<u32>, n: u32) -> bool
 
 impl Latest {
     ghost use Rattle.std.specs.Prelude.{◌≡◌};
-    ghost use Rattle.adversary_script.specs.Latest.{allows, latest_with};
+    ghost use Rattle.adversary_script.specs.LatestMoments.{allows, latest_with};
 
     /// Whether a change at this moment is in order behind the latest ones.
     pub fn allows(self, when: When) -> bool

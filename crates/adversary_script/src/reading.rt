@@ -2,8 +2,8 @@
 ghost use Rattle.std.specs.Prelude.{◌≡◌, ◌≢◌, ◌==◌, ◌<◌, ◌≤◌, ◌∷◌, length, Ok, Err, OnOk, IfOk, IfErr};
 ghost use Rattle.std.specs.List.{position_or_len};
 ghost use Rattle.std.specs.Str.Lines.{lines, strip_carriage_return};
-ghost use Rattle.adversary_script.specs.Grammar.{read_line, script_of};
-ghost use Rattle.adversary_script.specs.Views.{IsFault};
+ghost use Rattle.adversary_script.specs.ScriptGrammar.{read_line, script_of};
+ghost use Rattle.adversary_script.specs.FormMeanings.{IsFault};
 
 use crate::draft::Draft;
 use crate::error::ScriptError;
@@ -45,7 +45,7 @@ fn first_line(text: &[u8]) -> (&[u8], &[u8])
 }
 
 /// Reads a line, and adds its change.
-#[tactic(auto, unfolding(crate::specs::Grammar::read_line, crate::specs::Grammar::added))]
+#[tactic(auto, unfolding(crate::specs::ScriptGrammar::read_line, crate::specs::ScriptGrammar::added))]
 fn read_line(alloc: Global, draft: &mut Draft, line: &[u8]) -> Result<(), Fault>
     ensures read { OnOk result (read_line draft.old line.now ≡ Ok draft.new) }
     ensures fault { IfErr result (λ fault. IsFault fault (read_line draft.old line.now)) }

@@ -1,7 +1,7 @@
 //! Scripts.
 ghost use Rattle.std.specs.Prelude.{◌≡◌, List};
 ghost use Rattle.adversary_script.specs.declared.change.Change.{Change};
-ghost use Rattle.adversary_script.specs.Rules.{KeepsRules};
+ghost use Rattle.adversary_script.specs.ScriptRules.{KeepsRules};
 
 use crate::change::Change;
 use std::marker::Model;

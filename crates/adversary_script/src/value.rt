@@ -1,7 +1,7 @@
 //! The change that a line makes.
 ghost use Rattle.std.specs.Prelude.{◌≡◌};
-ghost use Rattle.adversary_script.specs.Grammar.{target_of, block as block_target, moment as when_of, deed, change, fields_say, line_says};
-ghost use Rattle.adversary_script.specs.Views.{block_of, moment_of, change_of, line_of, texts, Gives};
+ghost use Rattle.adversary_script.specs.ScriptGrammar.{target_of, block as block_target, moment as when_of, deed, change, fields_say, line_says};
+ghost use Rattle.adversary_script.specs.FormMeanings.{block_of, moment_of, change_of, line_of, texts, Gives};
 
 use crate::change::{Change, Target, What, When};
 use crate::fault::Fault;
@@ -23,7 +23,7 @@ fn target_of(kind: Kind, n: u32) -> Target
 }
 
 /// The block that a line names.
-#[tactic(auto, unfolding(crate::specs::Grammar::block))]
+#[tactic(auto, unfolding(crate::specs::ScriptGrammar::block))]
 fn target(block: Block<'_>) -> Result<Target, Fault>
     ensures { Gives result (block_target (block_of block.entry)) }
 {
@@ -32,7 +32,7 @@ fn target(block: Block<'_>) -> Result<Target, Fault>
 }
 
 /// When a line makes its change.
-#[tactic(auto, unfolding(crate::specs::Grammar::moment))]
+#[tactic(auto, unfolding(crate::specs::ScriptGrammar::moment))]
 fn when(moment: Moment<'_>) -> Result<When, Fault>
     ensures { Gives result (when_of (moment_of moment.entry)) }
 {
@@ -44,7 +44,7 @@ fn when(moment: Moment<'_>) -> Result<When, Fault>
 }
 
 /// What a line's change does.
-#[tactic(auto, unfolding(crate::specs::Grammar::deed))]
+#[tactic(auto, unfolding(crate::specs::ScriptGrammar::deed))]
 fn what(alloc: Global, form: Form<'_>) -> Result<What, Fault>
     ensures { Gives result (deed (change_of form.entry)) }
 {
@@ -90,7 +90,7 @@ fn what(alloc: Global, form: Form<'_>) -> Result<What, Fault>
 }
 
 /// The change that a line makes.
-#[tactic(auto, unfolding(crate::specs::Grammar::change))]
+#[tactic(auto, unfolding(crate::specs::ScriptGrammar::change))]
 fn change(alloc: Global, line: Line<'_>) -> Result<Change, Fault>
     ensures { Gives result (change (line_of line.entry)) }
 {
@@ -100,7 +100,7 @@ fn change(alloc: Global, line: Line<'_>) -> Result<Change, Fault>
 }
 
 /// The change that a line of these fields makes, if it makes one.
-#[tactic(auto, unfolding(crate::specs::Grammar::fields_say))]
+#[tactic(auto, unfolding(crate::specs::ScriptGrammar::fields_say))]
 fn fields_say(alloc: Global, fields: &[&[u8]]) -> Result<Option<Change>, Fault>
     ensures { Gives result (fields_say (texts fields.now)) }
 {
@@ -116,7 +116,7 @@ fn fields_say(alloc: Global, fields: &[&[u8]]) -> Result<Option<Change>, Fault>
 }
 
 /// The change that a line makes, if it makes one.
-#[tactic(auto, unfolding(crate::specs::Grammar::line_says))]
+#[tactic(auto, unfolding(crate::specs::ScriptGrammar::line_says))]
 pub fn line_says(alloc: Global, line: &[u8]) -> Result<Option<Change>, Fault>
     ensures { Gives result (line_says line.now) }
 {

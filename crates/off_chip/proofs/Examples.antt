@@ -2,19 +2,19 @@
 use Rattle.std.proofs.Common.{◌≡◌, ◌<◌, [], ◌∷◌, lit≤, lit<, refl, None, Some}
 use Rattle.aegis_num.specs.declared.storage.Place.TheVariants.{Tree, Log}
 use Rattle.regions.specs.declared.layout.Layout.{Layout}
-use Rattle.regions.specs.Tree.{height_of}
-use Rattle.off_chip.specs.declared.stored.TheConstants.{STORED_BYTES, WORD_BYTES}
-use Rattle.off_chip.specs.declared.plain.TheConstants.{RESUME_WORD}
+use Rattle.regions.specs.Tree.{height_of, tree_blocks}
+use Rattle.off_chip.specs.declared.stored.TheConstants.{WORD_BYTES}
+use Rattle.off_chip.specs.declared.loading.TheConstants.{RESUME_WORD}
 use Rattle.off_chip.specs.declared.event.Who.TheVariants.{Secure, Untrusted}
 use Rattle.off_chip.specs.declared.event.Mark.TheVariants.{Suspend}
 use Rattle.off_chip.specs.declared.event.Event.TheVariants.{WordRead, WordWrite, Note}
-use Rattle.off_chip.specs.Memory.{IsWordAddress, blocks_of_tree, bytes_at, put, resume_word, size_of, start_of_place, static_block, static_place, stored, stored_bytes}
-use Rattle.off_chip.specs.Answers.{IsAnswered}
-use Rattle.off_chip.specs.Bus.{AppendsOne, IsInside}
+use Rattle.off_chip.specs.OffChipBytes.{IsWordAddress, bytes_at, put, size_of, start_of_place, static_block, static_place, stored}
+use Rattle.off_chip.specs.AnsweredReads.{IsAnswered}
+use Rattle.off_chip.specs.BusCalls.{AppendsOne, IsInside}
 
 -- the program's constants are those of the definitions
-constants : (STORED_BYTES ≡ stored_bytes) × (RESUME_WORD ≡ resume_word) × (WORD_BYTES ≡ 4)
-constants = (refl, refl, refl)
+constants : (RESUME_WORD ≡ 0x70000003) × (WORD_BYTES ≡ 4)
+constants = (refl, refl)
 
 -- one verified block, one of constants, one of code and two of the log: the tree is one level high
 abbrev layout : Layout
@@ -36,7 +36,7 @@ unfolding height_of
 starts = (refl, refl, refl, refl, refl)
 
 -- the block of constants stands behind the verified one, and the block of code behind it
-statics : (static_place layout 0 ≡ Tree 2) × (static_place layout 1 ≡ Tree 3) × (blocks_of_tree layout ≡ 4)
+statics : (static_place layout 0 ≡ Tree 2) × (static_place layout 1 ≡ Tree 3) × (tree_blocks layout ≡ 4)
 unfolding height_of
 statics = (refl, refl, refl)
 

@@ -1,3 +1,16 @@
+pub mod AnswerLemmas
+pub mod ByteLemmas
+pub mod HistoryLemmas
 pub mod PlainMemory
-mod Worked
+pub mod SplitLemmas
+pub mod BoundaryLemmas
+pub mod StepLemmas
+pub mod WriteLemmas
+pub mod DigestLemmas
+pub mod FaithfulLemmas
+pub mod ResidencyLemmas
+pub mod StaticLemmas
+pub mod EpochLemmas
+pub mod MoreLemmas
 mod Examples
+mod Worked

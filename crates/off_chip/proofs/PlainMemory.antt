@@ -3,10 +3,10 @@ use Rattle.std.proofs.Common.{◌≡◌, ℕ, List, [], ◌∷◌, ◌++◌, len
 use Rattle.std.proofs.lemmas.List.{take_at}
 use Rattle.regions.specs.declared.layout.Layout.{Layout}
 use Rattle.off_chip.specs.declared.event.Event.{Event}
-use Rattle.off_chip.specs.Memory.{loaded, put}
-use Rattle.off_chip.specs.Answers.{Holds, after_event, after_events, IsAnswered}
-use Rattle.off_chip.specs.AnswersLaws.{after_events-more, IsAnswered-more}
-use Rattle.off_chip.specs.Plain.{IsPlainMemory}
+use Rattle.off_chip.specs.OffChipBytes.{loaded, put}
+use Rattle.off_chip.specs.AnsweredReads.{Holds, after_event, after_events, IsAnswered}
+use Rattle.off_chip.proofs.AnswerLemmas.{after_events-more, IsAnswered-more}
+use Rattle.off_chip.specs.PlainInvariant.{IsPlainMemory}
 
 pub IsPlainMemory-more : {layout : Layout} {statics memory : List ℕ} {trace : List Event} {in_tree : ℕ} (event : Event) (new_memory : List ℕ) (new_trace : List Event) →
     IsPlainMemory layout statics memory trace in_tree →
@@ -20,7 +20,7 @@ IsPlainMemory-more {layout} {statics} {memory} {trace} event new_memory new_trac
     let P : List ℕ → Type 0 = λ m. Holds layout m event in
     let Q : List Event → Type 0 = λ t. IsAnswered layout t start in
     record {
-      in_tree = is.in_tree;
+      counted = is.counted;
       size = size ∙ is.size;
       bytes = bytes ∙ ap (after_event layout event) is.bytes ∙ sym (after_events-more layout trace event start) ∙ ap (λ t. after_events layout t start) (sym more);
       answered = subst Q (sym more) (IsAnswered-more layout trace event start is.answered (subst P is.bytes holds));

@@ -12,16 +12,16 @@ use Rattle.off_chip.specs.declared.event.Event.{Event}
 use Rattle.off_chip.specs.declared.event.Event.TheVariants.{BlockRead, BlockWrite, WordRead, WordWrite, Note}
 use Rattle.off_chip.specs.declared.event.Mark.TheVariants.{Enter, Retire, Drop, CheckStart, CheckPassed, Sent, Suspend, Resume}
 use Rattle.off_chip.specs.declared.event.Who.TheVariants.{Secure, Untrusted}
-use Rattle.off_chip.specs.History.{history, AtEach}
-use Rattle.off_chip.specs.Boundaries.{enter_events, is_boundary, is_step, retired, suspensions, steps, since_step}
-use Rattle.off_chip.specs.Writes.{block_writes, read_at, last_write, StampsFit}
-use Rattle.off_chip.specs.Faithful.{First, AllFaithful, SomeUnfaithful, from_image, from_anything, is_faithful, faithful_part}
-use Rattle.off_chip.specs.Places.{AllInside}
-use Rattle.off_chip.specs.Statics.{static_at}
+use Rattle.off_chip.specs.Histories.{History, no_event, ◌◂◌, history, in_order, AtEach}
+use Rattle.off_chip.specs.Boundaries.{is_boundary, is_step, retired, suspensions, steps, since_step}
+use Rattle.off_chip.specs.Entering.{enter_events, payloads_entered}
+use Rattle.off_chip.specs.WriteBacks.{block_writes, read_at, last_write, StampsFit}
+use Rattle.off_chip.specs.FaithfulReads.{AllFaithful, TreeFaithful, LogFaithful, is_faithful, faithful_part}
+use Rattle.off_chip.specs.StaticBlocks.{static_at}
 use Rattle.off_chip.specs.Residency.{in_check, is_resident}
-use Rattle.off_chip.specs.Digests.{Digests, expected_digest}
-use Rattle.off_chip.specs.Epochs.{LogEntry, TreeFaithful, EpochFaithful, EndedFaithful, LogFaithful, epochs, reads_of, writes_of, open_reads, open_writes, NoReadAbove, AllSentInQuiet}
-use Rattle.off_chip.specs.Words.{words_read, words_written, pieces_sent, bytes_sent}
+use Rattle.off_chip.specs.ExpectedDigests.{Digests, expected_digest}
+use Rattle.off_chip.specs.Epochs.{LogEntry, EpochFaithful, EndedFaithful, epochs, reads_of, writes_of, open_reads, open_writes, NoReadAbove, AllSentInQuiet}
+use Rattle.off_chip.specs.ExchangedWords.{words_read, words_written, pieces_sent, bytes_sent}
 
 abbrev block : ℕ → ℕ → Block
 block byte stamp = record { payload = byte ∷ []; stamp = stamp }
@@ -79,11 +79,15 @@ third_step =
     ∷ Note (Retire Secure)
     ∷ []
 
-abbrev trace : List Event
-trace = entering ++ first_step ++ second_step ++ third_step
+-- event 33, of untrusted code
+abbrev late : List Event
+late = WordWrite Untrusted 0x8010 9 ∷ []
 
--- what is before event k, newest first
-abbrev at : ℕ → List Event
+abbrev trace : List Event
+trace = entering ++ first_step ++ second_step ++ third_step ++ late
+
+-- the history before event k
+abbrev at : ℕ → History
 at k = history (take k trace)
 
 -- the numbers below n, and the points of the trace at which a test passes
@@ -91,16 +95,13 @@ abbrev below : ℕ → List ℕ
 below zero = []
 below (suc n) = below n ++ n ∷ []
 
-abbrev points : (List Event → Bool) → List ℕ
+abbrev points : (History → Bool) → List ℕ
 points test = filter (λ k. test (at k)) (below 34)
 
 -- the one static block has the payload 7
-abbrev static : Place → Option (List ℕ)
-static (Tree n) = if eqb n 3 then Some (7 ∷ []) else None
-static (Log n) = None
-
-abbrev image : First
-image = from_image static
+abbrev image : Place → Option (List ℕ)
+image (Tree n) = if eqb n 3 then Some (7 ∷ []) else None
+image (Log n) = None
 
 -- digests and slots that tell what they were made of
 abbrev tree : Digests
@@ -112,7 +113,7 @@ entry n byte stamp = record { number = n; payload = byte ∷ []; stamp = stamp }
 abbrev word_at : ℕ → ℕ → traffic.Entry ℕ
 word_at at word = record { place = at; word = word }
 
-events : length trace ≡ 33
+events : length trace ≡ 34
 events = refl
 
 boundaries : points (is_boundary 6) ≡ 0 ∷ 6 ∷ 11 ∷ 20 ∷ 33 ∷ []
@@ -121,10 +122,10 @@ boundaries = refl
 step-boundaries : points (is_step 6) ≡ 6 ∷ 11 ∷ 20 ∷ 33 ∷ []
 step-boundaries = refl
 
-retired-counts : (retired (at 6) ≡ 0) × (retired (at 10) ≡ 0) × (retired (at 11) ≡ 1) × (retired (at 20) ≡ 2) × (retired trace ≡ 3)
+retired-counts : (retired (take 6 trace) ≡ 0) × (retired (take 10 trace) ≡ 0) × (retired (take 11 trace) ≡ 1) × (retired (take 20 trace) ≡ 2) × (retired trace ≡ 3)
 retired-counts = (refl, refl, refl, refl, refl)
 
-suspensions-counts : (suspensions (at 15) ≡ 0) × (suspensions (at 16) ≡ 1) × (suspensions trace ≡ 1)
+suspensions-counts : (suspensions (take 15 trace) ≡ 0) × (suspensions (take 16 trace) ≡ 1) × (suspensions trace ≡ 1)
 suspensions-counts = (refl, refl, refl)
 
 -- ten data blocks have a tree of height 3, which has 40 blocks; seven of them are static, and the log has five
@@ -145,25 +146,25 @@ last_writes-log = (refl, refl, refl)
 blocks_read : (filter_map (read_at (Tree 0)) trace ≡ block 30 2 ∷ block 31 4 ∷ []) × (filter_map (read_at (Log 1)) trace ≡ block 0 4 ∷ block 0 4 ∷ [])
 blocks_read = (refl, refl)
 
-writes-counts : (block_writes (at 2) ≡ 0) × (block_writes (at 3) ≡ 1) × (block_writes trace ≡ 8)
+writes-counts : (block_writes (take 2 trace) ≡ 0) × (block_writes (take 3 trace) ≡ 1) × (block_writes trace ≡ 8)
 writes-counts = (refl, refl, refl)
 
-stamps : StampsFit 8 (history trace)
+stamps : StampsFit 8 (at 33)
 stamps = record { each = search arith; count = refl }
 
 -- the first read of a static block is faithful whatever its stamp; the first unfaithful read has an old stamp
 faithful : faithful_part image trace ≡ take 30 trace
 faithful = refl
 
-faithful-first : (is_faithful image (BlockRead (Tree 3) (block 8 1)) [] ≡ false)
-    × (is_faithful image (BlockRead (Tree 2) (block 7 1)) [] ≡ false)
-    × (is_faithful from_anything (BlockRead (Tree 2) (block 7 1)) [] ≡ true)
+faithful-first : (is_faithful image (BlockRead (Tree 3) (block 8 1)) no_event ≡ false)
+    × (is_faithful image (BlockRead (Tree 2) (block 7 1)) no_event ≡ false)
+    × (is_faithful image (BlockRead (Tree 3) (block 7 1)) no_event ≡ true)
 faithful-first = (refl, refl, refl)
 
--- behind a write the image does not matter
+-- after a write the image does not matter
 faithful-written : (is_faithful image (BlockRead (Tree 3) (block 7 9)) (at 3) ≡ false)
     × (is_faithful image (BlockRead (Log 0) (block 9 3)) (at 21) ≡ false)
-    × (is_faithful from_anything (BlockRead (Log 0) (block 0 7)) (at 22) ≡ false)
+    × (is_faithful image (BlockRead (Log 0) (block 0 7)) (at 22) ≡ false)
     × (is_faithful image (BlockRead (Log 0) (block 9 7)) (at 22) ≡ true)
 faithful-written = (refl, refl, refl, refl)
 
@@ -188,15 +189,15 @@ resident-log_1 : points (is_resident (Log 1)) ≡ 28 ∷ 29 ∷ []
 resident-log_1 = refl
 
 -- only reads of the log can be inside a check, and a check that passed is over
-resident-in_check : (is_resident (Tree 1) (BlockRead (Tree 1) (block 0 0) ∷ Note CheckStart ∷ []) ≡ true)
-    × (is_resident (Log 1) (BlockRead (Log 1) (block 0 0) ∷ Note CheckStart ∷ Note CheckPassed ∷ []) ≡ false)
+resident-in_check : (is_resident (Tree 1) (BlockRead (Tree 1) (block 0 0) ◂ Note CheckStart ◂ no_event) ≡ true)
+    × (is_resident (Log 1) (BlockRead (Log 1) (block 0 0) ◂ Note CheckStart ◂ Note CheckPassed ◂ no_event) ≡ false)
 resident-in_check = (refl, refl)
 
 -- block 0: its last write, whatever was read
 expected-0 : (expected_digest tree 0 (at 3) ≡ None) × (expected_digest tree 0 (at 12) ≡ Some (0 ∷ 2 ∷ 30 ∷ [])) × (expected_digest tree 0 (at 33) ≡ Some (0 ∷ 5 ∷ 31 ∷ []))
 expected-0 = (refl, refl, refl)
 
--- its parent is read behind its write, and again
+-- its parent is read after its write, and again
 expected-3 : (expected_digest tree 3 (at 2) ≡ None)
     × (expected_digest tree 3 (at 6) ≡ Some (3 ∷ 1 ∷ 7 ∷ []))
     × (expected_digest tree 3 (at 7) ≡ Some (3 ∷ 30 ∷ []))
@@ -204,7 +205,7 @@ expected-3 : (expected_digest tree 3 (at 2) ≡ None)
     × (expected_digest tree 3 (at 31) ≡ Some (3 ∷ 31 ∷ []))
 expected-3 = (refl, refl, refl, refl, refl)
 
--- it is written behind a read of its parent
+-- it is written after a read of its parent
 expected-1 : (expected_digest tree 1 (at 6) ≡ None)
     × (expected_digest tree 1 (at 13) ≡ Some (1 ∷ 30 ∷ []))
     × (expected_digest tree 1 (at 14) ≡ Some (1 ∷ 6 ∷ 11 ∷ []))
@@ -212,7 +213,7 @@ expected-1 : (expected_digest tree 1 (at 6) ≡ None)
 expected-1 = (refl, refl, refl, refl)
 
 -- two epochs, the second of which is open
-epochs-two : epochs trace ≡ take 24 trace ∷ take 8 (drop 25 trace) ∷ []
+epochs-two : epochs trace ≡ take 24 trace ∷ drop 25 trace ∷ []
 epochs-two = refl
 
 -- the first epoch at the end of its check
@@ -229,40 +230,40 @@ open_epoch = (refl, refl, refl)
 -- the same in order
 epochs-in_order : (reads_of (take 24 trace) ≡ open_reads (at 24))
     × (writes_of [] (take 24 trace) ≡ open_writes (at 24))
-    × (writes_of (take 24 trace) (take 8 (drop 25 trace)) ≡ open_writes (at 33))
+    × (writes_of (take 24 trace) (drop 25 trace) ≡ open_writes (at 33))
 epochs-in_order = (refl, refl, refl)
 
 quiet : points (λ older. eqb (length (open_reads older)) 0) ≡ 0 ∷ 1 ∷ 2 ∷ 3 ∷ 4 ∷ 5 ∷ 6 ∷ 7 ∷ 8 ∷ 25 ∷ 26 ∷ 27 ∷ []
 quiet = refl
 
 sent_in_quiet : AllSentInQuiet (at 33)
-sent_in_quiet = search rules
+sent_in_quiet = record { each = search rules }
 
-sent_too_early : AllSentInQuiet (Note (Sent 1) ∷ at 24) → ⊥
-sent_too_early all = let e : open_reads (at 24) ≡ [] = all.1 in cc
+sent_too_early : AllSentInQuiet (Note (Sent 1) ◂ at 24) → ⊥
+sent_too_early all = let e : open_reads (at 24) ≡ [] = all.each.1.nothing in cc
 
 not_above : NoReadAbove (at 33)
-not_above = search rules
+not_above = record { each = search rules }
 
 -- eight blocks were written
-above : NoReadAbove (BlockRead (Log 1) (block 2 9) ∷ at 33) → ⊥
-above all = let le : 9 ≤ 8 = all.1 in omega arith
+above : NoReadAbove (BlockRead (Log 1) (block 2 9) ◂ at 33) → ⊥
+above all = let le : 9 ≤ 8 = all.each.1 in omega arith
 
 -- one too low, and one too high
-stamps_wrong : (StampsFit 9 (BlockWrite (Log 1) (block 2 8) ∷ at 33) → ⊥) × (StampsFit 9 (BlockWrite (Log 1) (block 2 10) ∷ at 33) → ⊥)
+stamps_wrong : (StampsFit 9 (BlockWrite (Log 1) (block 2 8) ◂ at 33) → ⊥) × (StampsFit 9 (BlockWrite (Log 1) (block 2 10) ◂ at 33) → ⊥)
 stamps_wrong = (λ fit. let e : 8 ≡ 9 = fit.each.1 in omega arith, λ fit. let e : 10 ≡ 9 = fit.each.1 in omega arith)
 
-words : (words_read (at 33) ≡ word_at 0x8000 5 ∷ word_at 0x8008 7 ∷ []) × (words_written (at 33) ≡ word_at 0x8004 6 ∷ word_at 0x800c 1 ∷ [])
+words : (words_read (take 33 trace) ≡ word_at 0x8000 5 ∷ word_at 0x8008 7 ∷ []) × (words_written trace ≡ word_at 0x8004 6 ∷ word_at 0x800c 1 ∷ [])
 words = (refl, refl)
 
-pieces : (pieces_sent (at 33) ≡ 3 ∷ 1 ∷ []) × (bytes_sent (at 33) ≡ 4) × (bytes_sent (at 26) ≡ 3)
+pieces : (pieces_sent (take 33 trace) ≡ 3 ∷ 1 ∷ []) × (bytes_sent (take 33 trace) ≡ 4) × (bytes_sent (take 26 trace) ≡ 3)
 pieces = (refl, refl, refl)
 
--- the steps without the marks that end them; the last one has not begun
-steps-four : steps 6 trace ≡ take 4 (drop 6 trace) ∷ take 8 (drop 11 trace) ∷ take 12 (drop 20 trace) ∷ [] ∷ []
+-- the steps without the marks that end them; the last one is under way
+steps-four : steps 6 trace ≡ take 4 (drop 6 trace) ∷ take 8 (drop 11 trace) ∷ take 12 (drop 20 trace) ∷ late ∷ []
 steps-four = refl
 
-since-steps : (since_step 6 (at 6) ≡ []) × (since_step 6 (at 9) ≡ history (take 3 (drop 6 trace))) × (since_step 6 (at 11) ≡ []) × (since_step 6 (at 22) ≡ history (take 2 (drop 20 trace)))
+since-steps : (since_step 6 (at 6) ≡ []) × (since_step 6 (at 9) ≡ take 3 (drop 6 trace)) × (since_step 6 (at 11) ≡ []) × (since_step 6 (at 22) ≡ take 2 (drop 20 trace))
 since-steps = (refl, refl, refl, refl)
 
 -- with ten data blocks the seven static ones are those from number 16 to number 22 of the tree
@@ -277,35 +278,27 @@ static-blocks : (static_at layout statics (Tree 16) ≡ Some (replicate 64 5)) �
 unfolding height_of
 static-blocks = (refl, refl, refl)
 
-inside : AllInside layout (at 33)
-unfolding height_of
-inside = search arith
-
-outside : (AllInside layout (Note (Drop (Tree 40)) ∷ at 33) → ⊥) × (AllInside layout (BlockWrite (Log 5) (block 0 9) ∷ at 33) → ⊥)
-unfolding height_of
-outside = (λ all. let lt : 40 < 40 = all.1 in omega arith, λ all. let lt : 5 < 5 = all.1 in omega arith)
-
 -- all is faithful up to event 30, which is a read of the tree: the epoch is faithful all the same
 all_faithful : AllFaithful image (at 30)
-all_faithful = search rules
+all_faithful = record { each = search rules }
 
-some_unfaithful : (AllFaithful image (at 31) → ⊥) × SomeUnfaithful image (at 31) × SomeUnfaithful image (at 33)
-some_unfaithful = (λ all. let e : false ≡ true = all.1 in cc, inr refl, inl (inl (inr refl)))
+some_unfaithful : AllFaithful image (at 31) → ⊥
+some_unfaithful all = let e : false ≡ true = all.each.1 in cc
 
 epoch_faithful : EpochFaithful image (at 33) × EndedFaithful image (at 33) × LogFaithful image (at 33)
-epoch_faithful = (search rules, search rules, search rules)
+epoch_faithful = (record { each = search rules }, record { ended = record { each = search rules } }, record { each = search rules })
 
 -- a read with an old stamp, and its epoch once it has ended
-epoch_unfaithful : (EpochFaithful image (BlockRead (Log 1) (block 0 4) ∷ at 33) → ⊥) × (LogFaithful image (BlockRead (Log 1) (block 0 4) ∷ at 33) → ⊥)
-epoch_unfaithful = (λ epoch. let e : false ≡ true = epoch.1 in cc, λ all. let e : false ≡ true = all.1 in cc)
+epoch_unfaithful : (EpochFaithful image (BlockRead (Log 1) (block 0 4) ◂ at 33) → ⊥) × (LogFaithful image (BlockRead (Log 1) (block 0 4) ◂ at 33) → ⊥)
+epoch_unfaithful = (λ epoch. let e : false ≡ true = epoch.each.1 in cc, λ all. let e : false ≡ true = all.each.1 in cc)
 
-epoch_ended : EpochFaithful image (Note CheckPassed ∷ BlockRead (Log 1) (block 0 4) ∷ at 33)
-    × (EndedFaithful image (Note CheckPassed ∷ BlockRead (Log 1) (block 0 4) ∷ at 33) → ⊥)
-epoch_ended = (tt, λ ended. let e : false ≡ true = ended.1.1 in cc)
+epoch_ended : EpochFaithful image (Note CheckPassed ◂ BlockRead (Log 1) (block 0 4) ◂ at 33)
+    × (EndedFaithful image (Note CheckPassed ◂ BlockRead (Log 1) (block 0 4) ◂ at 33) → ⊥)
+epoch_ended = (record { each = tt }, λ ended. let e : false ≡ true = ended.ended.each.1 in cc)
 
 -- log block 1 is resident at events 28 and 29 only, and these are no boundaries; three instructions were done at the last boundary alone
-at_boundaries : AtEach (is_boundary 6) (λ older. is_resident (Log 1) older ≡ false) (at 33) × (AtEach (is_boundary 6) (λ older. retired older ≤ 2) (at 33) → ⊥)
+at_boundaries : AtEach (is_boundary 6) (λ older. is_resident (Log 1) older ≡ false) (at 33) × (AtEach (is_boundary 6) (λ older. retired (in_order older) ≤ 2) (at 33) → ⊥)
 at_boundaries = (search rules, λ each. let le : 3 ≤ 2 = each.1 in omega arith)
 
-tree_unfaithful : TreeFaithful image (at 30) × (TreeFaithful image (at 31) → ⊥) × (TreeFaithful image (BlockRead (Log 1) (block 0 9) ∷ at 30))
-tree_unfaithful = (search rules, λ all. let e : false ≡ true = all.1 in cc, search rules)
+tree_unfaithful : TreeFaithful image (at 30) × (TreeFaithful image (at 31) → ⊥) × (TreeFaithful image (BlockRead (Log 1) (block 0 9) ◂ at 30))
+tree_unfaithful = (record { each = search rules }, λ all. let e : false ≡ true = all.each.1 in cc, record { each = search rules })

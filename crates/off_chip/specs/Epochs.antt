@@ -1,18 +1,17 @@
--- The epochs of the log: what was read and what was written of it between one passed check and the next, after the offline checks of
--- Suh et al., "Efficient Memory Integrity Verification and Encryption for Secure Processors", MICRO 2003.
-use Rattle.std.specs.Prelude.{◌≡◌, ℕ, ◌≤◌, Bool, true, false, ⊤, List, [], ◌∷◌, ◌++◌, filter_map, Option, Some, None, option_to_list, IsTrue, if◌then◌else◌}
+-- Promise: the epochs of the log, what was read and what was written of it between one passed check and the next, after the offline checks
+-- of Suh et al., "Efficient Memory Integrity Verification and Encryption for Secure Processors", MICRO 2003.
+use Rattle.std.specs.Prelude.{◌≡◌, ℕ, ◌≤◌, Bool, true, false, ⊤, List, [], ◌∷◌, ◌++◌, filter_map, Option, Some, None, IsTrue, ◌↔◌, if◌then◌else◌}
 use Rattle.std.specs.Bool.{OnTrue}
-use Rattle.std.specs.List.{slice_split}
+use Rattle.std.specs.List.{slice_split, list_any}
 use Rattle.aegis_num.specs.declared.storage.Block.{Block}
-use Rattle.aegis_num.specs.declared.storage.Place.TheVariants.{Tree, Log}
 use Rattle.aegis_num.specs.declared.storage.Place.{Place}
+use Rattle.aegis_num.specs.declared.storage.Place.TheVariants.{Log}
 use Rattle.off_chip.specs.declared.event.Event.{Event}
 use Rattle.off_chip.specs.declared.event.Event.TheVariants.{BlockRead, BlockWrite, Note}
 use Rattle.off_chip.specs.declared.event.Mark.TheVariants.{CheckStart, CheckPassed, Sent}
-use Rattle.off_chip.specs.History.{Each, EachCut, EachSince, told, since, until}
-use Rattle.off_chip.specs.Writes.{block_writes}
-use Rattle.off_chip.specs.Faithful.{First, is_faithful, IsFaithfulRead}
-use Rattle.off_chip.specs.Residency.{in_check}
+use Rattle.off_chip.specs.Histories.{History, in_order, history, Each, EachSince, since, until}
+use Rattle.off_chip.specs.WriteBacks.{block_writes}
+use Rattle.off_chip.specs.FaithfulReads.{is_faithful, is_log_read, IsFaithfulRead, LogFaithful, LogReadsFaithful}
 
 -- an entry of the log: the number of a block, its payload and its stamp
 pub record LogEntry : Type 0 where
@@ -20,6 +19,7 @@ pub record LogEntry : Type 0 where
   pub payload : List ℕ
   pub stamp : ℕ
 
+-- the entry of a block of the log
 abbrev pub entry_of : ℕ → Block → LogEntry
 entry_of n block = record { number = n; payload = block.payload; stamp = block.stamp }
 
@@ -42,100 +42,98 @@ abbrev pub is_check_start : Event → Bool
 is_check_start (Note CheckStart) = true
 is_check_start event = false
 
--- ---- in order
-
--- the epochs of a trace in order, without the marks that end them. The last one is the open epoch
+-- in order: the epochs of a trace, without the marks that end them. The last one is the open epoch
 abbrev pub epochs : List Event → List (List Event)
 epochs trace = slice_split is_passed trace
 
--- what stands in an epoch behind the start of its check
+-- the events of an epoch after the start of its check
 abbrev pub check_of : List Event → List Event
 check_of [] = []
 check_of (event ∷ rest) = if is_check_start event then rest else check_of rest
 
--- what the log reads of an epoch are, with those of its check
+-- the reads of an epoch: its log reads, with those of its check
 abbrev pub reads_of : List Event → List LogEntry
 reads_of epoch = filter_map log_read epoch
 
--- what the writes of an epoch are: the entries that the check before it read, and then its log writes
+-- the writes of an epoch: the entries that the check before it read, and then its log writes
 abbrev pub writes_of : List Event → List Event → List LogEntry
 writes_of previous epoch = reads_of (check_of previous) ++ filter_map log_written epoch
 
--- ---- over the history
+-- the events of the open epoch, and of the epoch before it, of which there are none before the first
+abbrev pub open_epoch : History → List Event
+open_epoch older = since is_passed older
 
--- the reads of the open epoch
-abbrev pub open_reads : List Event → List LogEntry
-open_reads older = told log_read (since is_passed older)
+abbrev pub ended_epoch : History → List Event
+ended_epoch older = since is_passed (until is_passed older)
 
--- the entries that the check of the open epoch read so far: its log reads inside a check
-abbrev pub check_reads : List Event → List LogEntry
-check_reads [] = []
-check_reads (event ∷ older) =
-    if is_passed event then [] else check_reads older ++ (if in_check older then option_to_list (log_read event) else [])
+-- the reads of the open epoch, and its writes
+abbrev pub open_reads : History → List LogEntry
+open_reads older = reads_of (open_epoch older)
 
--- the writes of the open epoch
-abbrev pub open_writes : List Event → List LogEntry
-open_writes older = check_reads (until is_passed older) ++ told log_written (since is_passed older)
+abbrev pub open_writes : History → List LogEntry
+open_writes older = writes_of (ended_epoch older) (open_epoch older)
 
 -- the open epoch holds no log read
-abbrev pub IsQuiet : List Event → Type 0
-IsQuiet older = open_reads older ≡ []
-
--- whether an event is a log read
-abbrev pub is_log_read : Event → Bool
-is_log_read (BlockRead (Log n) block) = true
-is_log_read event = false
+pub record IsQuiet (older : History) : Type 0 where
+  pub nothing : open_reads older ≡ []
 
 -- the open epoch is faithful: each of its log reads is
-abbrev pub EpochFaithful : First → List Event → Type 0
-EpochFaithful first older = EachSince is_passed (λ event older. OnTrue (is_log_read event) (IsTrue (is_faithful first event older))) older
+pub record EpochFaithful (image : Place → Option (List ℕ)) (older : History) : Type 0 where
+  pub each : EachSince is_passed (λ event older. OnTrue (is_log_read event) (IsTrue (is_faithful image event older))) older
 
--- in order: each log read behind the last passed check is faithful
-abbrev pub OpenReadsFaithful : (Place → Option (List ℕ)) → List Event → Type 0
-OpenReadsFaithful image trace =
-    (before : List Event) (n : ℕ) (block : Block) (rest : List Event) → trace ≡ before ++ BlockRead (Log n) block ∷ rest
-    → EachCut (λ event _. event ≡ Note CheckPassed → ⊥) rest → IsFaithfulRead image before (Log n) block
+-- each epoch that has ended is faithful: each log read before the latest passed check is
+pub record EndedFaithful (image : Place → Option (List ℕ)) (older : History) : Type 0 where
+  pub ended : LogFaithful image (until is_passed older)
 
--- each epoch that has ended is faithful
-abbrev pub EndedFaithful : First → List Event → Type 0
-EndedFaithful first older = Each (λ event older. OnTrue (is_passed event) (EpochFaithful first older)) older
+-- in order: each log read is faithful after which no check passed
+pub record OpenReadsFaithful (image : Place → Option (List ℕ)) (trace : List Event) : Type 0 where
+  pub each : (before : List Event) (n : ℕ) (block : Block) (rest : List Event)
+      → trace ≡ before ++ BlockRead (Log n) block ∷ rest → list_any is_passed rest ≡ false → IsFaithfulRead image before (Log n) block
 
--- each log read is faithful
-abbrev pub LogFaithful : First → List Event → Type 0
-LogFaithful first older = Each (λ event older. OnTrue (is_log_read event) (IsTrue (is_faithful first event older))) older
-
--- whether an event is a read of a tree block
-abbrev pub is_tree_read : Event → Bool
-is_tree_read (BlockRead (Tree n) block) = true
-is_tree_read event = false
-
--- each read of a tree block is faithful
-abbrev pub TreeFaithful : First → List Event → Type 0
-TreeFaithful first older = Each (λ event older. OnTrue (is_tree_read event) (IsTrue (is_faithful first event older))) older
+-- in order: each log read is faithful after which a check passed
+pub record EndedReadsFaithful (image : Place → Option (List ℕ)) (trace : List Event) : Type 0 where
+  pub each : (before : List Event) (n : ℕ) (block : Block) (rest : List Event)
+      → trace ≡ before ++ BlockRead (Log n) block ∷ rest → list_any is_passed rest ≡ true → IsFaithfulRead image before (Log n) block
 
 -- no log read has a stamp above the number of block writes before it
-abbrev pub ReadNotAbove : Event → List Event → Type 0
-ReadNotAbove (BlockRead (Log n) block) older = block.stamp ≤ block_writes older
+abbrev pub ReadNotAbove : Event → History → Type 0
+ReadNotAbove (BlockRead (Log n) block) older = block.stamp ≤ block_writes (in_order older)
 ReadNotAbove event older = ⊤
 
-abbrev pub NoReadAbove : List Event → Type 0
-NoReadAbove older = Each ReadNotAbove older
+pub record NoReadAbove (older : History) : Type 0 where
+  pub each : Each ReadNotAbove older
 
 -- in order
-abbrev pub ReadsNotAbove : List Event → Type 0
-ReadsNotAbove trace =
-    (before : List Event) (n : ℕ) (block : Block) (rest : List Event) → trace ≡ before ++ BlockRead (Log n) block ∷ rest → block.stamp ≤ block_writes before
+pub record ReadsNotAbove (trace : List Event) : Type 0 where
+  pub each : (before : List Event) (n : ℕ) (block : Block) (rest : List Event)
+      → trace ≡ before ++ BlockRead (Log n) block ∷ rest → block.stamp ≤ block_writes before
 
 -- bytes are sent in quiet epochs only
-abbrev pub SentInQuiet : Event → List Event → Type 0
+abbrev pub SentInQuiet : Event → History → Type 0
 SentInQuiet (Note (Sent n)) older = IsQuiet older
 SentInQuiet event older = ⊤
 
-abbrev pub AllSentInQuiet : List Event → Type 0
-AllSentInQuiet older = Each SentInQuiet older
+pub record AllSentInQuiet (older : History) : Type 0 where
+  pub each : Each SentInQuiet older
 
 -- in order: before each Sent mark the open epoch has no read
-abbrev pub SentBehindQuiet : List Event → Type 0
-SentBehindQuiet trace =
-    (before : List Event) (n : ℕ) (rest : List Event) → trace ≡ before ++ Note (Sent n) ∷ rest
-    → (earlier : List (List Event)) (epoch : List Event) → epochs before ≡ earlier ++ epoch ∷ [] → reads_of epoch ≡ []
+pub record SentAfterQuiet (trace : List Event) : Type 0 where
+  pub each : (before : List Event) (n : ℕ) (rest : List Event) → trace ≡ before ++ Note (Sent n) ∷ rest
+      → (earlier : List (List Event)) (epoch : List Event) → epochs before ≡ earlier ++ epoch ∷ [] → reads_of epoch ≡ []
+
+-- epochs of the log, of histories and in order
+pub record EpochsInOrder : Type 0 where
+  -- an epoch that has ended is the open one before the mark that ended it
+  pub cut : (before rest : List Event) → epochs (before ++ Note CheckPassed ∷ rest) ≡ epochs before ++ epochs rest
+  pub reads : (trace : List Event) (earlier : List (List Event)) (epoch : List Event) → epochs trace ≡ earlier ++ epoch ∷ [] → open_reads (history trace) ≡ reads_of epoch
+  pub first_writes : (trace : List Event) (epoch : List Event) → epochs trace ≡ epoch ∷ [] → open_writes (history trace) ≡ writes_of [] epoch
+  pub later_writes : (trace : List Event) (earlier : List (List Event)) (previous epoch : List Event) → epochs trace ≡ earlier ++ previous ∷ epoch ∷ []
+      → open_writes (history trace) ≡ writes_of previous epoch
+  pub quiet : (trace : List Event) (earlier : List (List Event)) (epoch : List Event) → epochs trace ≡ earlier ++ epoch ∷ []
+      → IsQuiet (history trace) ↔ (reads_of epoch ≡ [])
+  pub not_above : (trace : List Event) → NoReadAbove (history trace) ↔ ReadsNotAbove trace
+  pub sent : (trace : List Event) → AllSentInQuiet (history trace) ↔ SentAfterQuiet trace
+  pub open_faithful : (image : Place → Option (List ℕ)) (trace : List Event) → EpochFaithful image (history trace) ↔ OpenReadsFaithful image trace
+  pub ended_faithful : (image : Place → Option (List ℕ)) (trace : List Event) → EndedFaithful image (history trace) ↔ EndedReadsFaithful image trace
+  -- all log reads are faithful where those of each epoch are
+  pub log : (image : Place → Option (List ℕ)) (trace : List Event) → LogReadsFaithful image trace ↔ (EndedReadsFaithful image trace × OpenReadsFaithful image trace)

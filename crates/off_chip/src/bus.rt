@@ -4,8 +4,8 @@ ghost use Rattle.std.specs.Prelude.{◌≡◌, ℕ, ◌+◌, ◌<◌, ◌^◌, L
 ghost use Rattle.regions.specs.declared.layout.Layout.{Layout};
 ghost use Rattle.off_chip.specs.declared.event.Event.{Event as SomeEvent};
 ghost use Rattle.off_chip.specs.declared.event.Event.TheVariants.{BlockRead, BlockWrite, WordRead, WordWrite, Note};
-ghost use Rattle.off_chip.specs.Memory.{IsWordAddress};
-ghost use Rattle.off_chip.specs.Bus.{AppendsOne, IsInside, HoldsTold};
+ghost use Rattle.off_chip.specs.OffChipBytes.{IsWordAddress};
+ghost use Rattle.off_chip.specs.BusCalls.{AppendsOne, IsInside, HoldsTold};
 
 use crate::event::{Mark, Who};
 use aegis_num::{Block, Place};

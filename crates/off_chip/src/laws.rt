@@ -1,13 +1,21 @@
-//! Laws of what is said of a trace. Proofs go back over the events, newest first; a reader goes over the trace in order. Each
-//! definition has both forms, and these functions do nothing but state that the two agree, and what one more event changes.
-ghost use Rattle.off_chip.specs.InOrder.{BoundariesInOrder, DigestsInOrder, EpochsInOrder, FaithfulInOrder, HistoriesInOrder, OneEventMore, ResidencyInOrder, StaticsInPlace, WordsInOrder, WritesInOrder};
+//! Laws of what is said of a trace. Most definitions go back over the history; where the subject's own sentence goes over the trace
+//! in order, it is defined too, and these functions do nothing but state that the two say the same.
+ghost use Rattle.off_chip.specs.Histories.{HistoriesInOrder};
+ghost use Rattle.off_chip.specs.Boundaries.{BoundariesInOrder};
+ghost use Rattle.off_chip.specs.WriteBacks.{WritesInOrder};
+ghost use Rattle.off_chip.specs.FaithfulReads.{FaithfulInOrder};
+ghost use Rattle.off_chip.specs.StaticBlocks.{StaticsInPlace};
+ghost use Rattle.off_chip.specs.Residency.{ResidencyInOrder};
+ghost use Rattle.off_chip.specs.ExpectedDigests.{DigestsInOrder};
+ghost use Rattle.off_chip.specs.Epochs.{EpochsInOrder};
+ghost use Rattle.off_chip.specs.OneEventMore.{OneEventMore};
 
-/// What holds at each event, at some event and at some points, the latest event that tells something, and what events tell.
-pub fn histories_in_order<Told>()
-    ensures same { HistoriesInOrder Told }
+/// What holds at each event and at some points, and the last part of a trace that is cut.
+pub fn histories_in_order()
+    ensures same { HistoriesInOrder }
 {}
 
-/// The boundaries of a trace, the instructions done, and the steps between boundaries.
+/// The boundaries of a trace, and the steps between them.
 pub fn boundaries_in_order()
     ensures same { BoundariesInOrder }
 {}
@@ -17,7 +25,7 @@ pub fn writes_in_order()
     ensures same { WritesInOrder }
 {}
 
-/// Faithful block reads, and the longest first part of a trace in which all are faithful.
+/// Faithful block reads, those of the tree and those of the log, and the longest first part of a trace in which all are faithful.
 pub fn faithful_in_order()
     ensures same { FaithfulInOrder }
 {}
@@ -40,11 +48,6 @@ pub fn digests_in_order()
 /// The reads and the writes of the log, from one passed check to the next.
 pub fn epochs_in_order()
     ensures same { EpochsInOrder }
-{}
-
-/// The words that the secure program read and wrote, and the bytes that it sent.
-pub fn words_in_order()
-    ensures same { WordsInOrder }
 {}
 
 /// What one more event changes.

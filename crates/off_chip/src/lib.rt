@@ -5,6 +5,7 @@
 mod bus;
 mod event;
 mod laws;
+mod loading;
 mod plain;
 mod recorder;
 mod stored;
@@ -14,13 +15,14 @@ pub use bus::OffChip;
 pub use event::{Event, Mark, Who};
 pub use laws::{
     boundaries_in_order, digests_in_order, epochs_in_order, faithful_in_order, histories_in_order,
-    one_event_more, residency_in_order, statics_in_place, words_in_order, writes_in_order,
+    one_event_more, residency_in_order, statics_in_place, writes_in_order,
 };
-pub use plain::{PlainDram, RESUME_WORD};
+pub use loading::{RESUME_WORD, load};
+pub use plain::PlainDram;
 pub use recorder::Recorder;
 pub use stored::{
-    STORED_BYTES, WORD_BYTES, block_of_bytes, blocks_of_tree, bytes_of_block, size_of, start_of,
-    static_block, static_place, word_of_bytes,
+    WORD_BYTES, block_of_bytes, blocks_of_tree, bytes_of_block, size_of, start_of, static_block,
+    static_place, word_of_bytes,
 };
 pub use trace::Trace;
 

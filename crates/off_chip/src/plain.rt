@@ -1,26 +1,21 @@
 //! A memory that answers each read with the last write there.
 ghost use Rattle.std.specs.Prelude.{◌≡◌, ◌*◌, ◌+◌, ◌<◌, ◌^◌, [], length, IfOk, Some};
-ghost use Rattle.off_chip.specs.Memory.{loaded, loaded_over, size_of, static_blocks, with_statics};
-ghost use Rattle.off_chip.specs.Answers.{IsAnswered};
+ghost use Rattle.off_chip.specs.OffChipBytes.{loaded, static_blocks};
+ghost use Rattle.off_chip.specs.AnsweredReads.{IsAnswered};
 
 use crate::bus::OffChip;
 use crate::event::{Event, Mark, Who};
+use crate::loading::load;
 use crate::recorder::Recorder;
-use crate::stored::{
-    block_at, blocks_of_tree, put_block, put_word, size_of, start_of, static_block, static_place,
-    word_at,
-};
+use crate::stored::{block_at, blocks_of_tree, put_block, put_word, start_of, word_at};
 use crate::trace::Trace;
 use aegis_num::{Block, OutOfMemory, Place};
-use regions::{Layout, UNTRUSTED_START, leaf};
+use regions::Layout;
 use std::alloc::Global;
 use std::marker::Model;
 
-/// The word that stands where untrusted code starts: the instruction that resumes the program.
-pub const RESUME_WORD: u32 = 0x7000_0003;
-
 /// Off-chip memory that answers each read with the last write there, or else with what it began with: zeros, the
-/// static blocks at their places with stamp 0, and `RESUME_WORD` where untrusted code starts.
+/// static blocks at their places with stamp 0, and the instruction that resumes where untrusted code starts.
 #[derive(Drop)]
 pub struct PlainDram {
     layout: Layout,
@@ -31,7 +26,8 @@ pub struct PlainDram {
 }
 
 impl Model for PlainDram {
-    ghost use Rattle.off_chip.specs.Plain.{Plain, IsPlainMemory};
+    ghost use Rattle.off_chip.specs.PlainValues.{Plain};
+    ghost use Rattle.off_chip.specs.PlainInvariant.{IsPlainMemory};
 
     ghost Value = { Plain };
 
@@ -44,40 +40,6 @@ impl Model for PlainDram {
 
     ghost invariant = { λ d. IsPlainMemory d.layout d.statics.items
         d.memory.items d.recorder.trace d.tree_blocks };
-}
-
-// Puts the static blocks at their places.
-fn put_statics(memory: &mut [u8], layout: &Layout, statics: &[u8])
-    requires memory { length memory.old ≡ size_of layout.now }
-    requires statics { length statics.now ≡ 64 * static_blocks layout.now }
-    ensures { memory.new ≡ with_statics layout.now statics.now (static_blocks layout.now) memory.old }
-{
-    let tree_blocks = blocks_of_tree(layout);
-    for n in 0..layout.constants + layout.code {
-        let start = start_of(tree_blocks, static_place(layout, n));
-        put_block(memory, start, &static_block(statics, n));
-    }
-}
-
-// Puts all that a memory begins with, but for its zeros.
-fn put_all(memory: &mut [u8], layout: &Layout, statics: &[u8])
-    requires memory { length memory.old ≡ size_of layout.now }
-    requires statics { length statics.now ≡ 64 * static_blocks layout.now }
-    ensures { memory.new ≡ loaded_over layout.now statics.now memory.old }
-{
-    put_statics(memory, layout, statics);
-    put_word(memory, UNTRUSTED_START as usize, RESUME_WORD);
-}
-
-// What a memory begins with.
-fn load(alloc: Global, layout: &Layout, statics: &[u8]) -> Result<Vec<u8>, OutOfMemory>
-    requires { length statics.now ≡ 64 * static_blocks layout.now }
-    ensures bytes { IfOk result (λ memory. memory.items ≡ loaded layout.now statics.now) }
-    ensures size { IfOk result (λ memory. length memory.items ≡ size_of layout.now) }
-{
-    let mut memory = vec![in alloc; 0; size_of(layout)]?;
-    put_all(&mut memory, layout, statics);
-    Ok(memory)
 }
 
 impl PlainDram {
@@ -119,7 +81,7 @@ impl PlainDram {
 
 impl OffChip for PlainDram {
     ghost use Rattle.std.specs.Prelude.{Some};
-    ghost use Rattle.off_chip.specs.Plain.{plain_contents, SamePlain};
+    ghost use Rattle.off_chip.specs.PlainValues.{plain_contents, SamePlain};
     ghost use Rattle.std.proofs.Common.{refl, ap, ◌∙◌};
 
     ghost trace = { λ d. d.trace };

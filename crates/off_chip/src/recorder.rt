@@ -1,6 +1,6 @@
 //! The trace that a memory keeps, with room for further events.
 ghost use Rattle.std.specs.Prelude.{◌≡◌, ℕ, ◌+◌, ◌<◌, ◌^◌, [], length, IfOk};
-ghost use Rattle.off_chip.specs.Bus.{AppendsOne};
+ghost use Rattle.off_chip.specs.BusCalls.{AppendsOne};
 
 use crate::event::Event;
 use crate::trace::Trace;
@@ -17,9 +17,9 @@ pub struct Recorder {
 
 impl Model for Recorder {
     ghost use Rattle.std.specs.Prelude.{◌+◌, ◌≤◌, ◌<◌, ◌^◌, vec_len, vec_capacity};
-    ghost use Rattle.off_chip.specs.Recorded.{Recorded};
+    ghost use Rattle.off_chip.specs.KeptEvents.{KeptEvents};
 
-    ghost Value = { Recorded };
+    ghost Value = { KeptEvents };
 
     ghost view = { λ r. record { trace = r.events.items; room = r.room } };
 

@@ -2,17 +2,16 @@
 //! OpenRISC 1000 architecture (manual, section 3.2, big-endian byte order).
 ghost use Rattle.std.specs.Prelude.{◌≡◌, ◌+◌, ◌*◌, ◌≤◌, ◌<◌, length};
 ghost use Rattle.std.specs.Int.{w32, w64, to_be_bytes};
-ghost use Rattle.off_chip.specs.Memory.{HasPlace, blocks_of_tree, bytes_at, put, size_of, start_in, static_block, static_blocks, static_place, stored, stored_bytes};
+ghost use Rattle.regions.specs.declared.addresses.TheConstants.{STORED_BLOCK_BYTES};
+ghost use Rattle.regions.specs.Tree.{tree_blocks};
+ghost use Rattle.off_chip.specs.OffChipBytes.{HasPlace, bytes_at, put, size_of, start_in, static_block, static_blocks, static_place, stored};
 
 use aegis_num::{Block, Place};
-use regions::{Layout, OPEN_END, leaf};
+use regions::{BLOCK_BYTES, Layout, OPEN_END, STORED_BLOCK_BYTES, leaf};
 
-/// How many bytes a block has off chip: 64 of payload, and 8 of its stamp behind them.
-pub const STORED_BYTES: usize = PAYLOAD_BYTES + STAMP_BYTES;
+const PAYLOAD_BYTES: usize = BLOCK_BYTES as usize;
 
-const PAYLOAD_BYTES: usize = 64;
-
-const STAMP_BYTES: usize = 8;
+const STAMP_BYTES: usize = STORED_BLOCK_BYTES - PAYLOAD_BYTES;
 
 /// How many bytes a word has.
 pub const WORD_BYTES: usize = 4;
@@ -20,7 +19,7 @@ pub const WORD_BYTES: usize = 4;
 /// How many blocks the tree of a layout has: each above the lowest level has three children, and the root is
 /// nobody's child.
 pub fn blocks_of_tree(layout: &Layout) -> u32
-    ensures value { result ≡ blocks_of_tree layout.now }
+    ensures value { result ≡ tree_blocks layout.now }
     ensures limit { result ≤ 9841 }
 {
     3 * leaf(layout, 0) + 1
@@ -35,7 +34,7 @@ pub fn start_of(tree_blocks: u32, at: Place) -> usize
         Place::Tree(n) => n as usize,
         Place::Log(n) => tree_blocks as usize + n as usize,
     };
-    OPEN_END as usize + STORED_BYTES * block
+    OPEN_END as usize + STORED_BLOCK_BYTES * block
 }
 
 /// How many bytes the memory of a layout has.
@@ -73,8 +72,8 @@ fn put_payload(memory: &mut [u8], at: usize, payload: &[u8; PAYLOAD_BYTES])
 
 /// The block that stands at `start`.
 pub(crate) fn block_at(memory: &[u8], start: usize) -> Block
-    requires { start + stored_bytes ≤ length memory.now }
-    ensures { stored result ≡ bytes_at start stored_bytes memory.now }
+    requires { start + STORED_BLOCK_BYTES ≤ length memory.now }
+    ensures { stored result ≡ bytes_at start STORED_BLOCK_BYTES memory.now }
 {
     let mut payload = [0; PAYLOAD_BYTES];
     payload.copy_from_slice(&memory[start..start + PAYLOAD_BYTES]);
@@ -86,9 +85,9 @@ pub(crate) fn block_at(memory: &[u8], start: usize) -> Block
 
 /// Puts a block over the one at `start`.
 pub(crate) fn put_block(memory: &mut [u8], start: usize, block: &Block)
-    requires { start + stored_bytes ≤ length memory.old }
+    requires { start + STORED_BLOCK_BYTES ≤ length memory.old }
     ensures bytes { memory.new ≡ put start (stored block.now) memory.old }
-    ensures long { length (stored block.now) ≡ stored_bytes }
+    ensures long { length (stored block.now) ≡ STORED_BLOCK_BYTES }
 {
     put_payload(memory, start, &block.payload);
     put_stamp(memory, start + PAYLOAD_BYTES, block.stamp);
@@ -113,16 +112,16 @@ pub(crate) fn put_word(memory: &mut [u8], at: usize, word: u32)
 }
 
 /// The bytes of a block off chip.
-pub fn bytes_of_block(block: &Block) -> [u8; STORED_BYTES]
+pub fn bytes_of_block(block: &Block) -> [u8; STORED_BLOCK_BYTES]
     ensures value { result ≡ stored block.now }
 {
-    let mut bytes = [0; STORED_BYTES];
+    let mut bytes = [0; STORED_BLOCK_BYTES];
     put_block(&mut bytes, 0, block);
     bytes
 }
 
 /// The block that has these bytes off chip.
-pub fn block_of_bytes(bytes: &[u8; STORED_BYTES]) -> Block
+pub fn block_of_bytes(bytes: &[u8; STORED_BLOCK_BYTES]) -> Block
     ensures value { stored result ≡ bytes.now }
 {
     block_at(bytes, 0)

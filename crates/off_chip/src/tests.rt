@@ -1,6 +1,6 @@
 //! Each call of the bus once, at a plain memory.
 ghost use Rattle.std.specs.Prelude.{◌≤◌};
-ghost use Rattle.off_chip.specs.Bus.{IsInside};
+ghost use Rattle.off_chip.specs.BusCalls.{IsInside};
 
 use crate::{Event, Mark, OffChip, PlainDram, Who, blocks_of_tree};
 use aegis_num::{Block, Place};

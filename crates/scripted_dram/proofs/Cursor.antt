@@ -10,23 +10,23 @@ use Rattle.std.proofs.lemmas.List.Folds.{list_all_more}
 use Rattle.adversary_script.specs.declared.change.When.{When}
 use Rattle.adversary_script.specs.declared.change.When.TheVariants.{Start, At, Suspend}
 use Rattle.adversary_script.specs.declared.change.Change.{Change}
-use Rattle.adversary_script.specs.Rules.{may_precede, are_in_order}
+use Rattle.adversary_script.specs.ScriptRules.{may_precede, are_in_order}
 use Rattle.regions.specs.declared.layout.Layout.{Layout}
 use Rattle.scripted_dram.specs.declared.due.Count.{Count}
 use Rattle.scripted_dram.specs.declared.due.Count.TheVariants.{Events, Suspensions}
-use Rattle.scripted_dram.specs.Changes.{State, changed, all_changed}
+use Rattle.scripted_dram.specs.ChangedStates.{State, changed, all_changed}
 use Rattle.scripted_dram.specs.ScriptMemory.{changes_at}
-use Rattle.scripted_dram.specs.Due.{number_of, is_due, is_below, is_above, is_now, goes_on, IsPassed}
-use Rattle.scripted_dram.specs.Store.{Store, store_changed, all_stored}
+use Rattle.scripted_dram.specs.DueChanges.{awaited, is_due, is_below, is_above, is_now, goes_on, IsPassed}
+use Rattle.scripted_dram.specs.StoredStates.{Store, store_changed, all_stored}
 
 -- a change is due where its number is the count
-is_due-number_of : (count : Count) (k : ℕ) (when : When) → is_due count k when ≡ is_now k (number_of count when)
-is_due-number_of Events k Start = refl
-is_due-number_of Events k (At n) = grind (arith, nat_tests)
-is_due-number_of Events k (Suspend n) = refl
-is_due-number_of Suspensions k Start = refl
-is_due-number_of Suspensions k (At n) = refl
-is_due-number_of Suspensions k (Suspend n) = refl
+is_due-awaited : (count : Count) (k : ℕ) (when : When) → is_due count k when ≡ is_now k (awaited count when)
+is_due-awaited Events k Start = refl
+is_due-awaited Events k (At n) = grind (arith, nat_tests)
+is_due-awaited Events k (Suspend n) = refl
+is_due-awaited Suspensions k Start = refl
+is_due-awaited Suspensions k (At n) = refl
+is_due-awaited Suspensions k (Suspend n) = refl
 
 -- a number below the count is not the count
 below_not_now : (k : ℕ) (number : Option ℕ) → is_below k number ≡ true → is_now k number ≡ false
@@ -49,7 +49,7 @@ still_below k None below = refl
 still_below k (Some n) below = grind (arith, nat_tests)
 
 -- what stands behind a number above the count has none below it
-above_precedes : (count : Count) (k : ℕ) (first later : When) → is_above k (number_of count first) ≡ true → may_precede first later ≡ true → is_now k (number_of count later) ≡ false
+above_precedes : (count : Count) (k : ℕ) (first later : When) → is_above k (awaited count first) ≡ true → may_precede first later ≡ true → is_now k (awaited count later) ≡ false
 above_precedes Events k Start later above order = grind arith
 above_precedes Events k (At m) Start above order = refl
 above_precedes Events k (At m) (At n) above order = grind (arith, nat_tests)
@@ -62,32 +62,32 @@ above_precedes Suspensions k (Suspend m) (At n) above order = refl
 above_precedes Suspensions k (Suspend m) (Suspend n) above order = grind (arith, nat_tests)
 
 -- where each number is below the count, none is due
-none_due : (count : Count) (k : ℕ) (changes : List Change) → list_all (λ change. is_below k (number_of count change.when)) changes ≡ true → changes_at (is_due count k) changes ≡ []
+none_due : (count : Count) (k : ℕ) (changes : List Change) → list_all (λ change. is_below k (awaited count change.when)) changes ≡ true → changes_at (is_due count k) changes ≡ []
 none_due count k [] below = refl
 none_due count k (change ∷ changes) below =
-    let parts = and_parts (is_below k (number_of count change.when)) (list_all (λ later. is_below k (number_of count later.when)) changes) below in
+    let parts = and_parts (is_below k (awaited count change.when)) (list_all (λ later. is_below k (awaited count later.when)) changes) below in
     let here : is_due count k change.when ≡ false =
-    is_due-number_of count k change.when ∙ below_not_now k (number_of count change.when) parts.0 in
+    is_due-awaited count k change.when ∙ below_not_now k (awaited count change.when) parts.0 in
     rw here (none_due count k changes parts.1)
 
 -- where a first number is above the count, none behind it is due
-none_due_behind : (count : Count) (k : ℕ) (first : When) (changes : List Change) → is_above k (number_of count first) ≡ true → list_all (λ later. may_precede first later.when) changes ≡ true → changes_at (is_due count k) changes ≡ []
-none_due_behind count k first [] above order = refl
-none_due_behind count k first (change ∷ changes) above order =
+none_due_after : (count : Count) (k : ℕ) (first : When) (changes : List Change) → is_above k (awaited count first) ≡ true → list_all (λ later. may_precede first later.when) changes ≡ true → changes_at (is_due count k) changes ≡ []
+none_due_after count k first [] above order = refl
+none_due_after count k first (change ∷ changes) above order =
     let parts = and_parts (may_precede first change.when) (list_all (λ later. may_precede first later.when) changes) order in
     let here : is_due count k change.when ≡ false =
-    is_due-number_of count k change.when ∙ above_precedes count k first change.when above parts.0 in
-    rw here (none_due_behind count k first changes above parts.1)
+    is_due-awaited count k change.when ∙ above_precedes count k first change.when above parts.0 in
+    rw here (none_due_after count k first changes above parts.1)
 
 -- where the cursor does not go on, none of the further changes is due
 none_due_further : (count : Count) (k : ℕ) (changes : List Change) → goes_on count k changes ≡ false → are_in_order changes ≡ true → changes_at (is_due count k) changes ≡ []
 none_due_further count k [] stops order = refl
 none_due_further count k (change ∷ changes) stops order =
     let parts = and_parts (list_all (λ later. may_precede change.when later.when) changes) (are_in_order changes) order in
-    let above : is_above k (number_of count change.when) ≡ true = sym (not-not (is_above k (number_of count change.when))) ∙ ap not stops in
+    let above : is_above k (awaited count change.when) ≡ true = sym (not-not (is_above k (awaited count change.when))) ∙ ap not stops in
     let here : is_due count k change.when ≡ false =
-    is_due-number_of count k change.when ∙ above_not_now k (number_of count change.when) above in
-    rw here (none_due_behind count k change.when changes above parts.0)
+    is_due-awaited count k change.when ∙ above_not_now k (awaited count change.when) above in
+    rw here (none_due_after count k change.when changes above parts.0)
 
 -- further changes are in order too
 are_in_order-drop : (i : ℕ) (changes : List Change) → are_in_order changes ≡ true → are_in_order (drop i changes) ≡ true
@@ -122,11 +122,11 @@ pub none_passed : (count : Count) (k : ℕ) (changes : List Change) (cursor : �
 none_passed count k changes cursor passed = none_due count k (take cursor changes) passed.before
 
 -- numbers below the count are below the next one
-all_still_below : (count : Count) (k : ℕ) (changes : List Change) → list_all (λ change. is_below k (number_of count change.when)) changes ≡ true → list_all (λ change. is_below (k + 1) (number_of count change.when)) changes ≡ true
+all_still_below : (count : Count) (k : ℕ) (changes : List Change) → list_all (λ change. is_below k (awaited count change.when)) changes ≡ true → list_all (λ change. is_below (k + 1) (awaited count change.when)) changes ≡ true
 all_still_below count k [] below = refl
 all_still_below count k (change ∷ changes) below =
-    let parts = and_parts (is_below k (number_of count change.when)) (list_all (λ later. is_below k (number_of count later.when)) changes) below in
-    and_from _ _ (still_below k (number_of count change.when) parts.0) (all_still_below count k changes parts.1)
+    let parts = and_parts (is_below k (awaited count change.when)) (list_all (λ later. is_below k (awaited count later.when)) changes) below in
+    and_from _ _ (still_below k (awaited count change.when) parts.0) (all_still_below count k changes parts.1)
 
 -- the cursor has passed the same changes at the next count
 pub IsPassed-next : (count : Count) (k : ℕ) (changes : List Change) (cursor : ℕ) → IsPassed count k changes cursor → IsPassed count (k + 1) changes cursor
@@ -140,13 +140,13 @@ pub IsPassed-more : (count : Count) (k : ℕ) (changes : List Change) (cursor : 
 IsPassed-more count k changes cursor change passed below is goes =
     let P : Change → Type 0 = λ here. drop cursor changes ≡ here ∷ drop (cursor + 1) changes in
     let first : P change = subst P (sym is) (drop_more changes cursor change below) in
-    let on : not (is_above k (number_of count change.when)) ≡ true = sym (ap (goes_on count k) first) ∙ goes in
-    let above : is_above k (number_of count change.when) ≡ false = sym (not-not (is_above k (number_of count change.when))) ∙ ap not on in
-    let Q : Change → Type 0 = λ here. is_below (k + 1) (number_of count here.when) ≡ true in
-    let here : Q (get_or changes cursor change) = subst Q is (next_below k (number_of count change.when) above) in
+    let on : not (is_above k (awaited count change.when)) ≡ true = sym (ap (goes_on count k) first) ∙ goes in
+    let above : is_above k (awaited count change.when) ≡ false = sym (not-not (is_above k (awaited count change.when))) ∙ ap not on in
+    let Q : Change → Type 0 = λ here. is_below (k + 1) (awaited count here.when) ≡ true in
+    let here : Q (get_or changes cursor change) = subst Q is (next_below k (awaited count change.when) above) in
     record {
       within = omega (arith, passed.within);
-      before = list_all_more (λ change. is_below (k + 1) (number_of count change.when)) changes cursor change below ∙ and_from _ _ passed.before here;
+      before = list_all_more (λ change. is_below (k + 1) (awaited count change.when)) changes cursor change below ∙ and_from _ _ passed.before here;
     }
 
 -- where the cursor stops, all that is due is done

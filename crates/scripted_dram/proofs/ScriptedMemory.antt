@@ -4,13 +4,14 @@ use Rattle.std.proofs.lemmas.List.{length_push}
 use Rattle.regions.specs.declared.layout.Layout.{Layout}
 use Rattle.adversary_script.specs.declared.change.Change.{Change}
 use Rattle.off_chip.specs.declared.event.Event.{Event}
-use Rattle.off_chip.specs.Answers.{Holds, after_event}
-use Rattle.scripted_dram.specs.Changes.{State, all_changed}
-use Rattle.scripted_dram.specs.Store.{Store, all_stored, with_memory}
-use Rattle.scripted_dram.specs.ScriptMemory.{Moment, is_before_event, IsScripted, after_all, beginning, behind, changes_at, is_at_suspension, is_suspension, next, readied}
-use Rattle.scripted_dram.specs.Due.{IsPassed, is_due}
+use Rattle.off_chip.specs.AnsweredReads.{Holds, after_event}
+use Rattle.scripted_dram.specs.ChangedStates.{State, all_changed}
+use Rattle.scripted_dram.specs.StoredStates.{Store, all_stored, with_memory}
+use Rattle.off_chip.specs.Boundaries.{is_suspend}
+use Rattle.scripted_dram.specs.ScriptMemory.{Moment, is_before_event, IsScripted, after_all, beginning, moment_after, changes_at, is_at_suspension, next, readied}
+use Rattle.scripted_dram.specs.DueChanges.{IsPassed, is_due}
 use Rattle.scripted_dram.specs.declared.due.Count.TheVariants.{Events, Suspensions}
-use Rattle.scripted_dram.specs.Scripted.{IsScriptedMemory}
+use Rattle.scripted_dram.specs.ScriptedValues.{IsScriptedMemory}
 
 -- the moment behind one event more
 after_all-more : (layout : Layout) (script : List Change) (events : List Event) (event : Event) (moment : Moment) → after_all layout script (events ++ event ∷ []) moment ≡ next layout script event (after_all layout script events moment)
@@ -59,25 +60,25 @@ module _ {statics : List ℕ} {script : List Change} {trace : List Event} {suspe
         subst P (sym is.moment) holds_here
 
     module _ (new : Store) (new_trace : List Event) (new_suspensions new_at new_suspend : ℕ)
-        (written : new ≡ all_stored (if is_suspension event then changes_at (is_at_suspension suspensions) changes else []) (with_memory (after_event ready.layout event ready.state.memory) ready))
-        (counted : new_suspensions ≡ (if is_suspension event then suspensions + 1 else suspensions))
+        (written : new ≡ all_stored (if is_suspend event then changes_at (is_at_suspension suspensions) changes else []) (with_memory (after_event ready.layout event ready.state.memory) ready))
+        (counted : new_suspensions ≡ (if is_suspend event then suspensions + 1 else suspensions))
         (more : new_trace ≡ trace ++ event ∷ []) where
-      state_is : new.state ≡ (behind storage.layout script event ready.state here).state
+      state_is : new.state ≡ (moment_after storage.layout script event ready.state here).state
       state_is =
           ap (λ (store : Store). store.state) written
-          ∙ ap (λ layout. all_changed layout (if is_suspension event then changes_at (is_at_suspension suspensions) changes else [])
+          ∙ ap (λ layout. all_changed layout (if is_suspend event then changes_at (is_at_suspension suspensions) changes else [])
           (record { memory = after_event layout event ready.state.memory; slots = ready.state.slots })) same_layout
-          ∙ ap (λ all. all_changed storage.layout (if is_suspension event then changes_at (is_at_suspension suspensions) all else [])
+          ∙ ap (λ all. all_changed storage.layout (if is_suspend event then changes_at (is_at_suspension suspensions) all else [])
           (record { memory = after_event storage.layout event ready.state.memory; slots = ready.state.slots })) changes_are
 
       long : length new_trace ≡ length trace + 1
       long = ap length more ∙ length_push trace event
 
-      made : behind storage.layout script event ready.state here ≡ record { state = new.state; events = length new_trace; suspensions = new_suspensions }
+      made : moment_after storage.layout script event ready.state here ≡ record { state = new.state; events = length new_trace; suspensions = new_suspensions }
       made =
           let built : State → ℕ → ℕ → Moment = λ state events k. record { state = state; events = events; suspensions = k } in
-          ap (λ state. built state (length trace + 1) (if is_suspension event then suspensions + 1 else suspensions)) (sym state_is)
-          ∙ ap (λ events. built new.state events (if is_suspension event then suspensions + 1 else suspensions)) (sym long)
+          ap (λ state. built state (length trace + 1) (if is_suspend event then suspensions + 1 else suspensions)) (sym state_is)
+          ∙ ap (λ events. built new.state events (if is_suspend event then suspensions + 1 else suspensions)) (sym long)
           ∙ ap (built new.state (length new_trace)) (sym counted)
 
       pub IsScriptedMemory-more : IsPassed Events (events + 1) changes new_at → IsPassed Suspensions new_suspensions changes new_suspend →
@@ -95,9 +96,9 @@ module _ {statics : List ℕ} {script : List Change} {trace : List Event} {suspe
           let number : events + 1 ≡ length new_trace = ap (λ k. k + 1) events_are ∙ sym long in
           subst P new_layout (record {
             moment = ap (λ events. after_all layout script events start) more ∙ after_all-more layout script trace event start
-                ∙ ap (next layout script event) is.moment ∙ ap (λ state. behind layout script event state here) (sym is_ready) ∙ made;
+                ∙ ap (next layout script event) is.moment ∙ ap (λ state. moment_after layout script event state here) (sym is_ready) ∙ made;
             answered = subst R (sym more) (IsScripted-more layout script trace event start is.answered (subst Q (sym is.moment) holds_here));
             events_passed = subst T changes_are (subst S number at_passed);
             suspensions_passed = subst U changes_are suspend_passed;
-            few = omega (arith, is.few, long, counted, one_at_most (is_suspension event) suspensions);
+            few = omega (arith, is.few, long, counted, one_at_most (is_suspend event) suspensions);
           })

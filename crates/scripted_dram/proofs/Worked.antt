@@ -11,9 +11,10 @@ use Rattle.adversary_script.specs.declared.change.Change.{Change}
 use Rattle.off_chip.specs.declared.event.Event.TheVariants.{WordRead, WordWrite, Note}
 use Rattle.off_chip.specs.declared.event.Mark.TheVariants as mark
 use Rattle.off_chip.specs.declared.event.Who.TheVariants.{Secure, Untrusted}
-use Rattle.off_chip.specs.Memory.{put, stored}
-use Rattle.scripted_dram.specs.Changes.{block_in, kept_in, place_of, put_in, put_over, start_of_target}
-use Rattle.scripted_dram.specs.ScriptMemory.{Moment, IsScripted, is_before_event, is_at_start, is_at_suspension, is_suspension}
+use Rattle.off_chip.specs.OffChipBytes.{put, stored}
+use Rattle.scripted_dram.specs.ChangedStates.{block_in, kept_in, target_place, put_in, put_over, start_of_target}
+use Rattle.off_chip.specs.Boundaries.{is_suspend}
+use Rattle.scripted_dram.specs.ScriptMemory.{Moment, IsScripted, is_before_event, is_at_start, is_at_suspension}
 
 -- an `at` change is done before the event of its number alone
 before_event : (is_before_event 3 (At 2) ≡ false) × (is_before_event 3 (At 3) ≡ true) × (is_before_event 3 (At 4) ≡ false) × (is_before_event 0 (At 0) ≡ true)
@@ -26,7 +27,7 @@ no_event = (refl, refl, refl, refl)
 at_suspension : (is_at_suspension 0 (Suspend 0) ≡ true) × (is_at_suspension 0 (Suspend 1) ≡ false) × (is_at_suspension 1 (Suspend 1) ≡ true) × (is_at_suspension 0 (At 0) ≡ false)
 at_suspension = (refl, refl, refl, refl)
 
-suspensions : (is_suspension (Note mark.Suspend) ≡ true) × (is_suspension (Note mark.Resume) ≡ false) × (is_suspension (WordRead Secure 0 0) ≡ false)
+suspensions : (is_suspend (Note mark.Suspend) ≡ true) × (is_suspend (Note mark.Resume) ≡ false) × (is_suspend (WordRead Secure 0 0) ≡ false)
 suspensions = (refl, refl, refl)
 
 -- one verified block, one code block and two log blocks: the tree is one level high, and its block 3 is unused
@@ -43,11 +44,11 @@ small = record {
   shared_fits = lit≤ tt;
 }
 
-places : (place_of small (target.Data 0) ≡ Some (Tree 1)) × (place_of small (target.Data 1) ≡ Some (Tree 2)) × (place_of small (target.Data 2) ≡ None) × (place_of small (target.Text 0) ≡ Some (Tree 2))
+places : (target_place small (target.Data 0) ≡ Some (Tree 1)) × (target_place small (target.Data 1) ≡ Some (Tree 2)) × (target_place small (target.Data 2) ≡ None) × (target_place small (target.Text 0) ≡ Some (Tree 2))
 unfolding height_of
 places = (refl, refl, refl, refl)
 
-more_places : (place_of small (target.Text 1) ≡ None) × (place_of small (target.Node 3) ≡ Some (Tree 3)) × (place_of small (target.Node 4) ≡ None) × (place_of small (target.Log 1) ≡ Some (Log 1)) × (place_of small (target.Log 2) ≡ None)
+more_places : (target_place small (target.Text 1) ≡ None) × (target_place small (target.Node 3) ≡ Some (Tree 3)) × (target_place small (target.Node 4) ≡ None) × (target_place small (target.Log 1) ≡ Some (Log 1)) × (target_place small (target.Log 2) ≡ None)
 unfolding height_of
 more_places = (refl, refl, refl, refl, refl)
 
@@ -82,8 +83,8 @@ two_reads : IsScripted small at_one (WordRead Secure 0 0 ∷ WordRead Secure 0 0
 two_reads = (refl, (refl, tt))
 
 -- a write behind it lasts
-write_behind : IsScripted small at_one (WordRead Secure 4 0 ∷ WordWrite Untrusted 0 1 ∷ WordRead Secure 0 1 ∷ []) zeros
-write_behind = (refl, (tt, (refl, tt)))
+write_after : IsScripted small at_one (WordRead Secure 4 0 ∷ WordWrite Untrusted 0 1 ∷ WordRead Secure 0 1 ∷ []) zeros
+write_after = (refl, (tt, (refl, tt)))
 
 -- the changes of a suspension are done right behind its mark, and the `at` changes before it
 abbrev both : List Change

@@ -1,6 +1,6 @@
-pub mod Changes
-pub mod Due
+pub mod ChangedStates
+pub mod DueChanges
 pub mod EmptyScript
 pub mod ScriptMemory
-pub mod Scripted
-pub mod Store
+pub mod ScriptedValues
+pub mod StoredStates

@@ -1,4 +1,4 @@
--- Off-chip memory under a script: a fold over one finished trace.
+-- Promise: off-chip memory under a script, a fold over one finished trace.
 use Rattle.std.specs.Prelude.{ℕ, ◌+◌, nat_eq, nat_le, nat_lt, Bool, true, false, not, ◌&&◌, if◌then◌else◌, List, [], ◌∷◌, None, replicate}
 use Rattle.std.specs.List.{filter}
 use Rattle.aegis_num.specs.declared.limits.TheConstants.{SAVE_SLOTS}
@@ -7,12 +7,10 @@ use Rattle.adversary_script.specs.declared.change.When.{When}
 use Rattle.adversary_script.specs.declared.change.When.TheVariants.{Start, At, Suspend}
 use Rattle.adversary_script.specs.declared.change.Change.{Change}
 use Rattle.off_chip.specs.declared.event.Event.{Event}
-use Rattle.off_chip.specs.declared.event.Event.TheVariants.{BlockRead, BlockWrite, WordRead, WordWrite, Note}
-use Rattle.off_chip.specs.declared.event.Mark.{Mark}
-use Rattle.off_chip.specs.declared.event.Mark.TheVariants as mark
-use Rattle.off_chip.specs.Memory.{loaded}
-use Rattle.off_chip.specs.Answers.{Holds, after_event}
-use Rattle.scripted_dram.specs.Changes.{State, all_changed}
+use Rattle.off_chip.specs.Boundaries.{is_suspend}
+use Rattle.off_chip.specs.OffChipBytes.{loaded}
+use Rattle.off_chip.specs.AnsweredReads.{Holds, after_event}
+use Rattle.scripted_dram.specs.ChangedStates.{State, all_changed}
 
 -- memory and slots, how many events there were, and how many of these were the mark Suspend
 pub record Moment : Type 0 where
@@ -55,40 +53,21 @@ beginning layout statics script = record {
 abbrev pub readied : Layout → List Change → Moment → State
 readied layout script moment = all_changed layout (changes_at (is_before_event moment.events) script) moment.state
 
--- the mark is that of a suspension
-abbrev pub is_suspend : Mark → Bool
-is_suspend mark.Enter = false
-is_suspend (mark.Retire who) = false
-is_suspend (mark.Drop place) = false
-is_suspend mark.CheckStart = false
-is_suspend mark.CheckPassed = false
-is_suspend (mark.Sent count) = false
-is_suspend mark.Suspend = true
-is_suspend mark.Resume = false
-
--- the event is the mark of a suspension
-abbrev pub is_suspension : Event → Bool
-is_suspension (BlockRead at block) = false
-is_suspension (BlockWrite at block) = false
-is_suspension (WordRead by at word) = false
-is_suspension (WordWrite by at word) = false
-is_suspension (Note mark) = is_suspend mark
-
--- the moment behind an event, from memory just before it: a write puts its bytes, and the suspension of number K, counted
+-- the moment after an event, from memory just before it: a write puts its bytes, and the suspension of number K, counted
 -- from 0, is followed by the `suspend K` changes
-abbrev pub behind : Layout → List Change → Event → State → Moment → Moment
-behind layout script event ready moment = record {
-  state = all_changed layout (if is_suspension event then changes_at (is_at_suspension moment.suspensions) script else [])
+abbrev pub moment_after : Layout → List Change → Event → State → Moment → Moment
+moment_after layout script event ready moment = record {
+  state = all_changed layout (if is_suspend event then changes_at (is_at_suspension moment.suspensions) script else [])
       (record { memory = after_event layout event ready.memory; slots = ready.slots });
   events = moment.events + 1;
-  suspensions = if is_suspension event then moment.suspensions + 1 else moment.suspensions;
+  suspensions = if is_suspend event then moment.suspensions + 1 else moment.suspensions;
 }
 
--- the moment behind the next event
+-- the moment after the next event
 abbrev pub next : Layout → List Change → Event → Moment → Moment
-next layout script event moment = behind layout script event (readied layout script moment) moment
+next layout script event moment = moment_after layout script event (readied layout script moment) moment
 
--- the moment behind events
+-- the moment after events
 abbrev pub after_all : Layout → List Change → List Event → Moment → Moment
 after_all layout script [] moment = moment
 after_all layout script (event ∷ events) moment = after_all layout script events (next layout script event moment)

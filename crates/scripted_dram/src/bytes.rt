@@ -1,11 +1,13 @@
 //! Blocks, words and other bytes in a region, as they stand off chip.
 ghost use Rattle.std.specs.Prelude.{◌≡◌, ◌+◌, ◌≤◌, ◌<◌, ◌^◌, length};
 ghost use Rattle.std.specs.Int.{w32, to_be_bytes};
-ghost use Rattle.off_chip.specs.Memory.{bytes_at, put, stored, stored_bytes};
+ghost use Rattle.regions.specs.declared.addresses.TheConstants.{STORED_BLOCK_BYTES};
+ghost use Rattle.off_chip.specs.OffChipBytes.{bytes_at, put, stored};
 
 use aegis_num::Block;
-use off_chip::{STORED_BYTES, WORD_BYTES, block_of_bytes, bytes_of_block, word_of_bytes};
+use off_chip::{WORD_BYTES, block_of_bytes, bytes_of_block, word_of_bytes};
 use raw_region::Region;
+use regions::STORED_BLOCK_BYTES;
 
 /// Puts bytes from a place on.
 pub fn put_bytes(memory: &mut Region, at: usize, bytes: &[u8])
@@ -19,18 +21,18 @@ pub fn put_bytes(memory: &mut Region, at: usize, bytes: &[u8])
 }
 
 /// All bytes of the block that stands at `start`.
-pub fn whole_at(memory: &Region, start: usize) -> [u8; STORED_BYTES]
-    requires { start + stored_bytes ≤ length memory.now }
-    ensures { result ≡ bytes_at start stored_bytes memory.now }
+pub fn whole_at(memory: &Region, start: usize) -> [u8; STORED_BLOCK_BYTES]
+    requires { start + STORED_BLOCK_BYTES ≤ length memory.now }
+    ensures { result ≡ bytes_at start STORED_BLOCK_BYTES memory.now }
 {
-    let mut bytes = [0; STORED_BYTES];
+    let mut bytes = [0; STORED_BLOCK_BYTES];
     memory.copy_out(start, &mut bytes);
     bytes
 }
 
 /// Puts all bytes of a block over those of the one at `start`.
-pub fn put_whole(memory: &mut Region, start: usize, bytes: &[u8; STORED_BYTES])
-    requires { start + stored_bytes ≤ length memory.old }
+pub fn put_whole(memory: &mut Region, start: usize, bytes: &[u8; STORED_BLOCK_BYTES])
+    requires { start + STORED_BLOCK_BYTES ≤ length memory.old }
     ensures bytes { memory.new ≡ put start bytes.now memory.old }
     ensures size { length memory.new ≡ length memory.old }
 {
@@ -39,15 +41,15 @@ pub fn put_whole(memory: &mut Region, start: usize, bytes: &[u8; STORED_BYTES])
 
 /// The block that stands at `start`.
 pub fn block_at(memory: &Region, start: usize) -> Block
-    requires { start + stored_bytes ≤ length memory.now }
-    ensures { stored result ≡ bytes_at start stored_bytes memory.now }
+    requires { start + STORED_BLOCK_BYTES ≤ length memory.now }
+    ensures { stored result ≡ bytes_at start STORED_BLOCK_BYTES memory.now }
 {
     block_of_bytes(&whole_at(memory, start))
 }
 
 /// Puts a block over the one at `start`.
 pub fn put_block(memory: &mut Region, start: usize, block: &Block)
-    requires { start + stored_bytes ≤ length memory.old }
+    requires { start + STORED_BLOCK_BYTES ≤ length memory.old }
     ensures bytes { memory.new ≡ put start (stored block.now) memory.old }
     ensures size { length memory.new ≡ length memory.old }
 {

@@ -1,9 +1,9 @@
 //! The changes of a script that are due.
 ghost use Rattle.std.specs.Prelude.{◌≡◌, ◌+◌, ◌<◌, ◌^◌, true, length, drop, if◌then◌else◌};
-ghost use Rattle.adversary_script.specs.Rules.{KeepsRules, is_in_range};
+ghost use Rattle.adversary_script.specs.ScriptRules.{KeepsRules, is_in_range};
 ghost use Rattle.scripted_dram.specs.ScriptMemory.{changes_at, is_at_start};
-ghost use Rattle.scripted_dram.specs.Due.{IsPassed, goes_on, is_above, is_due, number_of};
-ghost use Rattle.scripted_dram.specs.Store.{all_stored, store_changed};
+ghost use Rattle.scripted_dram.specs.DueChanges.{IsPassed, goes_on, is_above, is_due, awaited};
+ghost use Rattle.scripted_dram.specs.StoredStates.{all_stored, store_changed};
 
 use crate::storage::Storage;
 use adversary_script::{Change, When};
@@ -18,8 +18,8 @@ pub enum Count {
 }
 
 // The number of a change that waits for a count.
-fn number_of(count: Count, when: When) -> Option<u32>
-    ensures { result ≡ number_of count when }
+fn awaited(count: Count, when: When) -> Option<u32>
+    ensures { result ≡ awaited count when }
 {
     match (count, when) {
         (Count::Events, When::At(n)) | (Count::Suspensions, When::Suspend(n)) => Some(n),
@@ -29,9 +29,9 @@ fn number_of(count: Count, when: When) -> Option<u32>
 
 // Whether a change waits for a greater count.
 fn is_above(count: Count, when: When, k: u64) -> bool
-    ensures { result ≡ is_above k (number_of count when) }
+    ensures { result ≡ is_above k (awaited count when) }
 {
-    match number_of(count, when) {
+    match awaited(count, when) {
         Some(n) => u64::from(n) > k,
         None => false,
     }
@@ -41,7 +41,7 @@ fn is_above(count: Count, when: When, k: u64) -> bool
 fn is_due(count: Count, when: When, k: u64) -> bool
     ensures { result ≡ is_due count k when }
 {
-    match number_of(count, when) {
+    match awaited(count, when) {
         Some(n) => n as u64 == k,
         None => false,
     }

@@ -1,10 +1,12 @@
 //! A memory that an adversary changes as a script says.
 ghost use Rattle.std.specs.Prelude.{◌≡◌, ◌*◌, ◌+◌, ◌<◌, ◌^◌, [], length, IfOk, if◌then◌else◌};
-ghost use Rattle.off_chip.specs.Memory.{static_blocks};
-ghost use Rattle.scripted_dram.specs.Due.{IsPassed};
+ghost use Rattle.off_chip.specs.OffChipBytes.{static_blocks};
+ghost use Rattle.scripted_dram.specs.DueChanges.{IsPassed};
 ghost use Rattle.scripted_dram.specs.declared.due.Count.TheVariants.{Events, Suspensions};
-ghost use Rattle.scripted_dram.specs.ScriptMemory.{IsAnsweredBy, changes_at, is_at_suspension, is_before_event, is_suspend};
-ghost use Rattle.scripted_dram.specs.Store.{all_stored};
+ghost use Rattle.off_chip.specs.Boundaries.{is_suspend};
+ghost use Rattle.off_chip.specs.declared.event.Event.TheVariants.{Note};
+ghost use Rattle.scripted_dram.specs.ScriptMemory.{IsAnsweredBy, changes_at, is_at_suspension, is_before_event};
+ghost use Rattle.scripted_dram.specs.StoredStates.{all_stored};
 
 use crate::due::{Count, do_at_start, do_due};
 use crate::storage::Storage;
@@ -19,7 +21,7 @@ use std::marker::Model;
 /// open bytes, then each block of the tree and each block of the log in 72 bytes.
 ///
 /// A `start` change is done when the memory is made, and an `at` change before the first event that comes when
-/// there were at least so many. The suspensions are counted from 0, and a `suspend` change is done right behind its own.
+/// there were at least so many. The suspensions are counted from 0, and a `suspend` change is done right after its own.
 /// The script is gone through once in the whole run, so an event costs the same, however many changes it has.
 #[derive(Drop)]
 pub struct ScriptedDram {
@@ -33,7 +35,7 @@ pub struct ScriptedDram {
 }
 
 impl Model for ScriptedDram {
-    ghost use Rattle.scripted_dram.specs.Scripted.{IsScriptedMemory, Scripted};
+    ghost use Rattle.scripted_dram.specs.ScriptedValues.{IsScriptedMemory, Scripted};
 
     ghost Value = { Scripted };
 
@@ -51,7 +53,7 @@ impl Model for ScriptedDram {
 
 // Whether a mark is that of a suspension.
 fn is_suspend(mark: Mark) -> bool
-    ensures { result ≡ is_suspend mark }
+    ensures { result ≡ is_suspend (Note mark) }
 {
     matches!(mark, Mark::Suspend)
 }
@@ -65,8 +67,8 @@ fn do_before(storage: &mut Storage, script: &Script, cursor: usize, events: u64)
     do_due(storage, script.as_slice(), cursor, Count::Events, events)
 }
 
-// Does the changes that follow a mark behind so many suspensions, and answers where the cursor stands then.
-fn do_behind(
+// Does the changes that follow a mark after so many suspensions, and answers where the cursor stands then.
+fn do_after(
     storage: &mut Storage,
     script: &Script,
     mark: Mark,
@@ -74,9 +76,9 @@ fn do_behind(
     suspensions: u64,
 ) -> usize
     requires { IsPassed Suspensions suspensions script.now cursor }
-    ensures done { storage.new ≡ all_stored (if is_suspend mark
+    ensures done { storage.new ≡ all_stored (if is_suspend (Note mark)
         then changes_at (is_at_suspension suspensions) script.now else []) storage.old }
-    ensures passed { IsPassed Suspensions (if is_suspend mark then suspensions + 1 else suspensions)
+    ensures passed { IsPassed Suspensions (if is_suspend (Note mark) then suspensions + 1 else suspensions)
         script.now result }
 {
     if is_suspend(mark) {
@@ -91,10 +93,10 @@ fn do_behind(
     cursor
 }
 
-// How many suspensions there are behind a mark.
-fn suspensions_behind(mark: Mark, suspensions: u64) -> u64
+// How many suspensions there are after a mark.
+fn suspensions_after(mark: Mark, suspensions: u64) -> u64
     requires { suspensions + 1 < 2 ^ 64 }
-    ensures { result ≡ (if is_suspend mark then suspensions + 1 else suspensions) }
+    ensures { result ≡ (if is_suspend (Note mark) then suspensions + 1 else suspensions) }
 {
     if is_suspend(mark) {
         suspensions + 1
@@ -149,7 +151,7 @@ impl ScriptedDram {
 impl OffChip for ScriptedDram {
     ghost use Rattle.std.specs.Prelude.{Some};
     ghost use Rattle.std.proofs.Common.{refl, ap, ◌∙◌};
-    ghost use Rattle.scripted_dram.specs.Scripted.{SameScripted, scripted_contents};
+    ghost use Rattle.scripted_dram.specs.ScriptedValues.{SameScripted, scripted_contents};
 
     ghost trace = { λ d. d.trace };
 
@@ -202,14 +204,14 @@ impl OffChip for ScriptedDram {
     fn note(&mut self, mark: Mark) {
         let events = self.recorder.events();
         self.next_at = do_before(&mut self.storage, &self.script, self.next_at, events);
-        self.next_suspend = do_behind(
+        self.next_suspend = do_after(
             &mut self.storage,
             &self.script,
             mark,
             self.next_suspend,
             self.suspensions,
         );
-        self.suspensions = suspensions_behind(mark, self.suspensions);
+        self.suspensions = suspensions_after(mark, self.suspensions);
         self.recorder.append(Event::Note(mark));
     }
 

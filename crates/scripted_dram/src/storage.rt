@@ -1,23 +1,23 @@
 //! All bytes of off-chip memory in one region, the slots for blocks, and what each change does to them.
 ghost use Rattle.std.specs.Prelude.{◌≡◌, ◌+◌, ◌≤◌, ◌<◌, ◌*◌, true, length, replicate, None, IfOk, IfSome};
+ghost use Rattle.aegis_num.specs.declared.limits.TheConstants.{SAVE_SLOTS};
 ghost use Rattle.regions.specs.Blocks.{data_blocks};
+ghost use Rattle.regions.specs.declared.addresses.TheConstants.{OPEN_END, STORED_BLOCK_BYTES};
 ghost use Rattle.adversary_script.specs.declared.change.What.TheVariants.{Open, Bytes, Save, Back, Copy};
-ghost use Rattle.adversary_script.specs.Rules.{is_in_range};
+ghost use Rattle.adversary_script.specs.ScriptRules.{is_in_range};
 ghost use Rattle.off_chip.specs.declared.event.Event.TheVariants.{BlockRead, BlockWrite, WordRead, WordWrite};
-ghost use Rattle.off_chip.specs.Answers.{Holds, after_event};
-ghost use Rattle.off_chip.specs.Memory.{HasPlace, IsWordAddress, loaded, size_of, static_blocks, with_statics, start_of_place, stored_bytes};
-ghost use Rattle.scripted_dram.specs.Changes.{data_place, place_of, start_of_target};
-ghost use Rattle.scripted_dram.specs.Store.{store_changed, with_memory};
+ghost use Rattle.off_chip.specs.AnsweredReads.{Holds, after_event};
+ghost use Rattle.off_chip.specs.OffChipBytes.{HasPlace, IsWordAddress, loaded, size_of, static_blocks, start_of_place};
+ghost use Rattle.scripted_dram.specs.ChangedStates.{data_place, target_place, start_of_target};
+ghost use Rattle.scripted_dram.specs.StoredStates.{store_changed, with_memory};
 
 use crate::bytes::{block_at, put_block, put_bytes, put_whole, put_word, whole_at, word_at};
 use adversary_script::{Target, What};
 use aegis_num::limits::SAVE_SLOTS;
 use aegis_num::{Block, OutOfMemory, Place};
-use off_chip::{
-    RESUME_WORD, STORED_BYTES, Who, blocks_of_tree, size_of, start_of, static_block, static_place,
-};
+use off_chip::{Who, blocks_of_tree, load, start_of};
 use raw_region::Region;
-use regions::{Layout, UNTRUSTED_START, leaf};
+use regions::{Layout, STORED_BLOCK_BYTES, leaf};
 use std::alloc::Global;
 use std::marker::Model;
 
@@ -31,8 +31,8 @@ fn data_place(layout: &Layout, n: u32) -> Place
 }
 
 // The place of a target, if the layout has it.
-fn place_of(layout: &Layout, target: Target) -> Option<Place>
-    ensures value { result ≡ place_of layout.now target }
+fn target_place(layout: &Layout, target: Target) -> Option<Place>
+    ensures value { result ≡ target_place layout.now target }
     ensures inside { IfSome result (λ place. HasPlace layout.now place) }
 {
     let code_start = layout.verified + layout.private + layout.constants;
@@ -49,9 +49,9 @@ fn place_of(layout: &Layout, target: Target) -> Option<Place>
 #[tactic(auto, using(crate::proofs::Within::within))]
 fn start_of_target(layout: &Layout, target: Target) -> Option<usize>
     ensures value { result ≡ start_of_target layout.now target }
-    ensures within { IfSome result (λ start. start + stored_bytes ≤ size_of layout.now) }
+    ensures within { IfSome result (λ start. start + STORED_BLOCK_BYTES ≤ size_of layout.now) }
 {
-    let place = place_of(layout, target)?;
+    let place = target_place(layout, target)?;
     Some(start_of(blocks_of_tree(layout), place))
 }
 
@@ -61,11 +61,11 @@ pub struct Storage {
     layout: Layout,
     tree_blocks: u32,
     memory: Region,
-    slots: Vec<Option<[u8; STORED_BYTES]>>,
+    slots: Vec<Option<[u8; STORED_BLOCK_BYTES]>>,
 }
 
 impl Model for Storage {
-    ghost use Rattle.scripted_dram.specs.Store.{IsStore, Store};
+    ghost use Rattle.scripted_dram.specs.StoredStates.{IsStore, Store};
 
     ghost Value = { Store };
 
@@ -77,29 +77,15 @@ impl Model for Storage {
     ghost invariant = { λ s. IsStore s.layout s.tree_blocks s.memory s.slots.items };
 }
 
-// Puts the static blocks at their places.
-fn put_statics(memory: &mut Region, layout: &Layout, statics: &[u8])
-    requires memory { length memory.old ≡ size_of layout.now }
-    requires statics { length statics.now ≡ 64 * static_blocks layout.now }
-    ensures bytes { memory.new ≡ with_statics layout.now statics.now (static_blocks layout.now) memory.old }
-    ensures size { length memory.new ≡ size_of layout.now }
-{
-    let tree_blocks = blocks_of_tree(layout);
-    for n in 0..layout.constants + layout.code {
-        let start = start_of(tree_blocks, static_place(layout, n));
-        put_block(memory, start, &static_block(statics, n));
-    }
-}
-
-// What a memory begins with.
-fn load(alloc: Global, layout: &Layout, statics: &[u8]) -> Result<Region, OutOfMemory>
+// What a memory begins with, in one region.
+fn load_region(alloc: Global, layout: &Layout, statics: &[u8]) -> Result<Region, OutOfMemory>
     requires { length statics.now ≡ 64 * static_blocks layout.now }
     ensures bytes { IfOk result (λ memory. memory ≡ loaded layout.now statics.now) }
     ensures size { IfOk result (λ memory. length memory ≡ size_of layout.now) }
 {
-    let mut memory = Region::new(alloc, size_of(layout))?;
-    put_statics(&mut memory, layout, statics);
-    put_word(&mut memory, UNTRUSTED_START as usize, RESUME_WORD);
+    let bytes = load(alloc, layout, statics)?;
+    let mut memory = Region::new(alloc, bytes.len())?;
+    put_bytes(&mut memory, 0, &bytes);
     Ok(memory)
 }
 
@@ -109,10 +95,10 @@ impl Storage {
         requires { length statics.now ≡ 64 * static_blocks layout.now }
         ensures { IfOk result (λ storage. storage ≡ record {
           layout = layout.now;
-          state = record { memory = loaded layout.now statics.now; slots = replicate 16 None };
+          state = record { memory = loaded layout.now statics.now; slots = replicate SAVE_SLOTS None };
         }) }
     {
-        let memory = load(alloc, layout, statics)?;
+        let memory = load_region(alloc, layout, statics)?;
         Ok(Storage {
             layout: *layout,
             tree_blocks: blocks_of_tree(layout),
@@ -123,7 +109,7 @@ impl Storage {
 
     // Writes open bytes.
     fn open(&mut self, at: u32, bytes: &[u8])
-        requires { at + length bytes.now ≤ 65536 }
+        requires { at + length bytes.now ≤ OPEN_END }
         ensures { self.new ≡ store_changed (Open at bytes.now) self.old }
     {
         put_bytes(&mut self.memory, at as usize, bytes);
@@ -131,7 +117,7 @@ impl Storage {
 
     // Writes bytes of a block.
     fn write(&mut self, target: Target, at: u32, bytes: &[u8])
-        requires { at + length bytes.now ≤ stored_bytes }
+        requires { at + length bytes.now ≤ STORED_BLOCK_BYTES }
         ensures { self.new ≡ store_changed (Bytes target at bytes.now) self.old }
     {
         if let Some(start) = start_of_target(&self.layout, target) {
@@ -141,7 +127,7 @@ impl Storage {
 
     // Keeps a block in a slot.
     fn save(&mut self, slot: u32, target: Target)
-        requires { slot < 16 }
+        requires { slot < SAVE_SLOTS }
         ensures { self.new ≡ store_changed (Save slot target) self.old }
     {
         if let Some(start) = start_of_target(&self.layout, target) {
@@ -151,7 +137,7 @@ impl Storage {
 
     // Puts the block of a slot back over a block.
     fn back(&mut self, slot: u32, target: Target)
-        requires { slot < 16 }
+        requires { slot < SAVE_SLOTS }
         ensures { self.new ≡ store_changed (Back slot target) self.old }
     {
         let saved = self.slots[slot as usize];

@@ -1,6 +1,6 @@
 //! Both memories, by lists of events: each event is called for, and the trace has to be the list again.
 ghost use Rattle.std.specs.Prelude.{◌≡◌, ◌<◌, true, Some};
-ghost use Rattle.off_chip.specs.Memory.{HasPlace, static_blocks};
+ghost use Rattle.off_chip.specs.OffChipBytes.{HasPlace, static_blocks};
 
 use super::*;
 use adversary_script::read_script;

@@ -1,7 +1,7 @@
 use Rattle.std.proofs.Common.{length, ltb, rules, tests}
 use Rattle.std.proofs.lemmas.Iterator.Consumers.{YieldsList-at, YieldsList-from_filter, map_from_collect}
 use Rattle.std.proofs.lemmas.Iterator.Splits.{YieldsList-from_slice_split}
-use Rattle.adversary_script.specs.Fields.{is_separator}
+use Rattle.adversary_script.specs.LineFields.{is_separator}
 use Rattle.adversary_script.proofs.fields.fields_of.Goals as goal
 
 pub returns : goal.returns

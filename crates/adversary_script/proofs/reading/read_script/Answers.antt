@@ -1,7 +1,7 @@
 use Rattle.std.proofs.Common.{length, sym, ap, ◌∙◌, arith}
 use Rattle.std.specs.Str.Lines.{lines}
 use Rattle.std.proofs.lemmas.Bool.{eqb-true}
-use Rattle.adversary_script.specs.Grammar.{changes_from, script_of}
+use Rattle.adversary_script.specs.ScriptGrammar.{changes_from, script_of}
 use Rattle.adversary_script.proofs.Lines.{told_further, told_fault, told_end}
 use Rattle.adversary_script.proofs.reading.read_script.Goals as goal
 

@@ -1,6 +1,6 @@
 use Rattle.std.proofs.Common.{◌≡◌, ◌+◌, ◌≤◌, length}
 use Rattle.std.specs.Str.Lines.{lines}
-use Rattle.adversary_script.specs.Grammar.{changes_from, script_of}
+use Rattle.adversary_script.specs.ScriptGrammar.{changes_from, script_of}
 use Rattle.adversary_script.proofs.reading.read_script.Given as goal
 
 -- the changes so far, and those of the rest behind them, are those of the text

@@ -1,4 +1,4 @@
-use Rattle.off_chip.specs.DigestLaws.{expected_digest-in_order}
+use Rattle.off_chip.proofs.DigestLemmas.{expected_digest-in_order}
 use Rattle.off_chip.proofs.laws.digests_in_order.Goals as goal
 
 pub returns : goal.returns

@@ -1,4 +1,4 @@
-use Rattle.off_chip.specs.EpochLaws.{AllFaithful-both, epochs-cut, open_reads-in_order, open_writes-first, open_writes-later, IsQuiet-in_order, NoReadAbove-in_order, AllSentInQuiet-in_order, EpochFaithful-in_order, epochs-LogFaithful, LogFaithful-ended, LogFaithful-epoch}
+use Rattle.off_chip.proofs.EpochLemmas.{epochs-cut, open_reads-in_order, open_writes-first, open_writes-later, IsQuiet-in_order, NoReadAbove-in_order, AllSentInQuiet-in_order, EpochFaithful-in_order, EndedFaithful-in_order, LogReadsFaithful-epochs}
 use Rattle.off_chip.proofs.laws.epochs_in_order.Goals as goal
 
 pub returns : goal.returns
@@ -11,8 +11,8 @@ returns c = record {
     quiet = IsQuiet-in_order;
     not_above = NoReadAbove-in_order;
     sent = AllSentInQuiet-in_order;
-    faithful = EpochFaithful-in_order;
-    all = AllFaithful-both;
-    log = λ first older. (λ all. (LogFaithful-ended first older all, LogFaithful-epoch first older all), λ both. epochs-LogFaithful first older both.0 both.1);
+    open_faithful = EpochFaithful-in_order;
+    ended_faithful = EndedFaithful-in_order;
+    log = LogReadsFaithful-epochs;
   };
 }

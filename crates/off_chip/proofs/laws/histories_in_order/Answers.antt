@@ -1,19 +1,15 @@
-use Rattle.off_chip.specs.WordsOnHistories.{each-tests, number-tests, some-tests, last-told, joined-told, points-tests, listed-told, counted-tests, summed-told}
-use Rattle.off_chip.specs.SplitLaws.{last-part}
+use Rattle.off_chip.proofs.HistoryLemmas.{in_order-history, history-in_order, history-push, each-tests, points-tests}
+use Rattle.off_chip.proofs.SplitLemmas.{last-part}
 use Rattle.off_chip.proofs.laws.histories_in_order.Goals as goal
 
 pub returns : goal.returns
-returns g c = record {
+returns c = record {
   same = record {
+    of_trace = in_order-history;
+    of_history = history-in_order;
+    one_more = history-push;
     each = each-tests;
-    number = number-tests;
-    some = some-tests;
-    last = last-told;
-    joined = joined-told;
     points = points-tests;
-    listed = listed-told;
-    counted = counted-tests;
-    summed = summed-told;
     part = last-part;
   };
 }

@@ -1,4 +1,4 @@
-use Rattle.off_chip.specs.ResidencyLaws.{in_check-Decides, is_resident-Decides}
+use Rattle.off_chip.proofs.ResidencyLemmas.{in_check-Decides, is_resident-Decides}
 use Rattle.off_chip.proofs.laws.residency_in_order.Goals as goal
 
 pub returns : goal.returns

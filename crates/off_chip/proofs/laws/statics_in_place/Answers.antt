@@ -1,4 +1,4 @@
-use Rattle.off_chip.specs.StaticLaws.{static_at-is}
+use Rattle.off_chip.proofs.StaticLemmas.{static_at-is}
 use Rattle.off_chip.proofs.laws.statics_in_place.Goals as goal
 
 pub returns : goal.returns

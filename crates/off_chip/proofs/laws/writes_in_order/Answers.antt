@@ -1,4 +1,4 @@
-use Rattle.off_chip.specs.WriteLaws.{last_write-in_order, last_write-never, StampsFit-in_order, last_write-stamp}
+use Rattle.off_chip.proofs.WriteLemmas.{last_write-in_order, last_write-never, StampsFit-in_order, last_write-stamp}
 use Rattle.off_chip.proofs.laws.writes_in_order.Goals as goal
 
 pub returns : goal.returns

@@ -1,7 +1,7 @@
 use Rattle.std.proofs.Common.{◌≡◌, ◌+◌, ◌++◌, arith, ap, ◌∙◌, sym, ◌-◌, take, drop}
 use Rattle.std.specs.Int.{w64, to_be_bytes}
-use Rattle.off_chip.specs.Memory.{bytes_at}
-use Rattle.off_chip.specs.MemoryLaws.{bytes_at-add}
+use Rattle.off_chip.specs.OffChipBytes.{bytes_at}
+use Rattle.off_chip.proofs.ByteLemmas.{bytes_at-add}
 use Rattle.off_chip.proofs.stored.block_at.Goals as goal
 
 pub returns : goal.returns

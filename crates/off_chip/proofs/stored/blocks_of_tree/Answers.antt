@@ -1,8 +1,7 @@
 use Rattle.std.proofs.Common.{◌≡◌, ◌+◌, ◌*◌, ◌≤◌, arith}
 use Rattle.regions.specs.declared.layout.Layout.{Layout}
-use Rattle.regions.specs.Tree.{height_of, leaf_of}
+use Rattle.regions.specs.Tree.{height_of, leaf_of, tree_blocks}
 use Rattle.regions.proofs.TreeLaws.{level_start-suc, level_start-three, positions-few}
-use Rattle.off_chip.specs.Memory.{blocks_of_tree}
 use Rattle.off_chip.proofs.stored.blocks_of_tree.Goals as goal
 
 -- the blocks above the lowest level are few
@@ -10,7 +9,7 @@ few_above : (layout : Layout) → leaf_of layout 0 ≤ 3280
 few_above layout = omega (arith, level_start-three (height_of layout), positions-few layout)
 
 -- each of them has three children
-blocks_of_tree-above : (layout : Layout) → blocks_of_tree layout ≡ 3 * leaf_of layout 0 + 1
+blocks_of_tree-above : (layout : Layout) → tree_blocks layout ≡ 3 * leaf_of layout 0 + 1
 blocks_of_tree-above layout = omega (arith, level_start-suc 3 (height_of layout))
 
 pub leaf-requires : goal.leaf-requires

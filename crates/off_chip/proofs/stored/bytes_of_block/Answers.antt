@@ -1,6 +1,6 @@
 use Rattle.std.proofs.Common.{◌+◌, ◌++◌, length, arith, ap, ◌∙◌, append-nil}
 use Rattle.std.proofs.lemmas.List.{drop_all}
-use Rattle.off_chip.specs.Memory.{stored}
+use Rattle.off_chip.specs.OffChipBytes.{stored}
 use Rattle.off_chip.proofs.stored.bytes_of_block.Goals as goal
 
 pub returns : goal.returns

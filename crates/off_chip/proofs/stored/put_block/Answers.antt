@@ -1,7 +1,7 @@
 use Rattle.std.proofs.Common.{◌≡◌, ◌+◌, arith, ap, ◌∙◌}
 use Rattle.std.specs.Int.{w64, to_be_bytes}
-use Rattle.off_chip.specs.Memory.{put}
-use Rattle.off_chip.specs.MemoryLaws.{put-put}
+use Rattle.off_chip.specs.OffChipBytes.{put}
+use Rattle.off_chip.proofs.ByteLemmas.{put-put}
 use Rattle.off_chip.proofs.stored.put_block.Goals as goal
 
 pub returns-clause-bytes : goal.returns-clause-bytes

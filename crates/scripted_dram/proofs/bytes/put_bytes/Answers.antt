@@ -1,7 +1,7 @@
 use Rattle.std.proofs.Common.{◌≡◌, ℕ, ◌+◌, ◌≤◌, ◌<◌, List, [], ◌∷◌, ◌++◌, length, take, drop, slice_set, slice_index, refl, ap, ◌∙◌, sym, arith, add-one}
 use Rattle.std.proofs.lemmas.List.{set_split, take_more, length-take-le}
-use Rattle.off_chip.specs.Memory.{put}
-use Rattle.off_chip.specs.MemoryLaws.{put-put, length-put}
+use Rattle.off_chip.specs.OffChipBytes.{put}
+use Rattle.off_chip.proofs.ByteLemmas.{put-put, length-put}
 use Rattle.scripted_dram.proofs.bytes.put_bytes.Goals as goal
 
 -- a byte that is set is put

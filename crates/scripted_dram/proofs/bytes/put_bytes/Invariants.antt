@@ -1,5 +1,5 @@
 use Rattle.std.proofs.Common.{◌≡◌, length, take}
-use Rattle.off_chip.specs.Memory.{put}
+use Rattle.off_chip.specs.OffChipBytes.{put}
 use Rattle.scripted_dram.proofs.bytes.put_bytes.Given as goal
 
 -- the bytes so far are put

@@ -1,6 +1,6 @@
 use Rattle.std.proofs.Common.{◌≡◌, length, take}
 use Rattle.scripted_dram.specs.ScriptMemory.{changes_at, is_at_start}
-use Rattle.scripted_dram.specs.Store.{all_stored}
+use Rattle.scripted_dram.specs.StoredStates.{all_stored}
 use Rattle.scripted_dram.proofs.due.do_at_start.Given as goal
 
 -- the `start` changes so far are done

@@ -1,6 +1,6 @@
 use Rattle.std.proofs.Common.{ap, refl, sym, ◌∙◌}
-use Rattle.scripted_dram.specs.Due.{is_due}
-use Rattle.scripted_dram.specs.Store.{all_stored}
+use Rattle.scripted_dram.specs.DueChanges.{is_due}
+use Rattle.scripted_dram.specs.StoredStates.{all_stored}
 use Rattle.scripted_dram.proofs.Cursor.{all_done, IsPassed-more, IsPassed-next, more_stored, none_passed}
 use Rattle.scripted_dram.proofs.due.do_due.Goals as goal
 

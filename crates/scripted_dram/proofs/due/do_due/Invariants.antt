@@ -1,7 +1,7 @@
 use Rattle.std.proofs.Common.{◌≡◌, ◌+◌, ◌-◌, length, take}
 use Rattle.scripted_dram.specs.ScriptMemory.{changes_at}
-use Rattle.scripted_dram.specs.Due.{IsPassed, is_due}
-use Rattle.scripted_dram.specs.Store.{all_stored}
+use Rattle.scripted_dram.specs.DueChanges.{IsPassed, is_due}
+use Rattle.scripted_dram.specs.StoredStates.{all_stored}
 use Rattle.scripted_dram.proofs.due.do_due.Given as goal
 
 -- what is due among the changes before the cursor is done

@@ -1,5 +1,5 @@
 use Rattle.std.proofs.Common.{sym, ap, ◌∙◌}
-use Rattle.adversary_script.specs.Grammar.{ruled}
+use Rattle.adversary_script.specs.ScriptGrammar.{ruled}
 use Rattle.adversary_script.proofs.Drafts.{IsDraft-push}
 use Rattle.adversary_script.proofs.draft.Draft.add.Goals as goal
 

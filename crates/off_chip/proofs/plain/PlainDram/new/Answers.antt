@@ -1,6 +1,6 @@
 use Rattle.std.proofs.Common.{sym, subst, ℕ, List}
 use Rattle.off_chip.specs.declared.event.Event.{Event}
-use Rattle.off_chip.specs.Plain.{IsPlainMemory}
+use Rattle.off_chip.specs.PlainInvariant.{IsPlainMemory}
 use Rattle.off_chip.proofs.plain.PlainDram.new.Goals as goal
 
 pub invariant_of-result : goal.invariant_of-result
@@ -11,7 +11,7 @@ invariant_of-result c =
     let P : List ℕ → Type 0 = λ statics. IsPlainMemory layout statics memory c.in_ok-recorder.recorder.trace tree_blocks in
     let Q : List Event → Type 0 = λ trace. IsPlainMemory layout c.args.statics.now memory trace tree_blocks in
     subst P (sym c.in_ok-from_slice.ensures.items) (subst Q (sym c.in_ok-recorder.ensures.empty) (record {
-      in_tree = c.blocks_of_tree.ensures.value;
+      counted = c.blocks_of_tree.ensures.value;
       size = c.in_ok-memory.ensures.size;
       bytes = c.in_ok-memory.ensures.bytes;
       answered = tt;

@@ -1,6 +1,6 @@
 use Rattle.std.proofs.Common.{ap, refl, ◌∙◌}
 use Rattle.off_chip.specs.declared.event.Event.TheVariants.{WordRead}
-use Rattle.off_chip.specs.Memory.{bytes_at}
+use Rattle.off_chip.specs.OffChipBytes.{bytes_at}
 use Rattle.off_chip.proofs.PlainMemory.{IsPlainMemory-more}
 use Rattle.off_chip.proofs.plain.PlainDramOffChip.read_word.Goals as goal
 

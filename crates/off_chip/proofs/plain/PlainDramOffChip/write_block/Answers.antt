@@ -1,6 +1,6 @@
 use Rattle.std.proofs.Common.{◌≡◌, length, ap, ◌∙◌, arith}
 use Rattle.off_chip.specs.declared.event.Event.TheVariants.{BlockWrite}
-use Rattle.off_chip.specs.Memory.{put, start_in, start_of_place, stored}
+use Rattle.off_chip.specs.OffChipBytes.{put, start_in, start_of_place, stored}
 use Rattle.off_chip.proofs.PlainMemory.{IsPlainMemory-put}
 use Rattle.off_chip.proofs.plain.PlainDramOffChip.write_block.Goals as goal
 
@@ -9,7 +9,7 @@ invariant_of-self c =
     let at = c.args.at in
     let block = c.args.block.now in
     let start : c.start_of.result ≡ start_of_place c.self.inside.layout at =
-    c.start_of.ensures.value ∙ ap (λ n. start_in n at) c.self.invariant.in_tree in
+    c.start_of.ensures.value ∙ ap (λ n. start_in n at) c.self.invariant.counted in
     let memory = c.self.inside.memory.items in
     IsPlainMemory-put (BlockWrite at block) c.start_of.result (stored block) _ _ _ c.self.invariant tt
     (ap (λ n. put n (stored block) memory) start)

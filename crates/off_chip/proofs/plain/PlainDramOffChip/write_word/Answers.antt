@@ -1,7 +1,7 @@
 use Rattle.std.proofs.Common.{length, ap, refl, ◌∙◌, arith}
 use Rattle.std.specs.Int.{w32, to_be_bytes}
 use Rattle.off_chip.specs.declared.event.Event.TheVariants.{WordWrite}
-use Rattle.off_chip.specs.Memory.{put}
+use Rattle.off_chip.specs.OffChipBytes.{put}
 use Rattle.off_chip.proofs.PlainMemory.{IsPlainMemory-put}
 use Rattle.off_chip.proofs.plain.PlainDramOffChip.write_word.Goals as goal
 

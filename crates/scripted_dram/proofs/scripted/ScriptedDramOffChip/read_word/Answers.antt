@@ -1,7 +1,7 @@
 use Rattle.std.proofs.Common.{refl, subst}
 use Rattle.off_chip.specs.declared.event.Event.TheVariants.{WordRead}
-use Rattle.off_chip.specs.Answers.{Holds}
-use Rattle.scripted_dram.specs.Scripted.{Scripted, scripted_contents}
+use Rattle.off_chip.specs.AnsweredReads.{Holds}
+use Rattle.scripted_dram.specs.ScriptedValues.{Scripted, scripted_contents}
 use Rattle.scripted_dram.proofs.ScriptedMemory.{IsScriptedMemory-more, holds_told}
 use Rattle.scripted_dram.proofs.scripted.ScriptedDramOffChip.read_word.Goals as goal
 
