@@ -1,5 +1,5 @@
 mod WorkedParses
-mod WorkedPlaces
+pub mod WorkedPlaces
 pub mod Holds
 pub mod Lists
 pub mod Chains

@@ -27,10 +27,10 @@ unfolding missing p.program p.items p.item_inside p.heading_at p.typed p.typed_r
 missing_at main = refused_expected (missing main) (numbered 10 (Word w.Return ∷ Number 0 false ∷ Sign s.Semicolon ∷ Sign s.RightBrace ∷ [])) refl
 
 -- 64 signs `(` after the one of `release`: the last of them opens one level too many
-deep_text : (main : List ℕ) → List Kind
+pub deep_text : (main : List ℕ) → List Kind
 deep_text main = Word w.Int ∷ Name main ∷ Sign s.LeftParenthesis ∷ Word w.Void ∷ Sign s.RightParenthesis ∷ Sign s.LeftBrace
     ∷ Word w.Release ∷ Sign s.LeftParenthesis ∷ opens 64
 
-deep_at_71 : (main : List ℕ) → IsDeepAt (deep_text main) 71
+pub deep_at_71 : (main : List ℕ) → IsDeepAt (deep_text main) 71
 unfolding opens deep_text p.program p.items p.item_inside p.heading_at p.typed p.typed_rest p.function_rest p.parameters p.listed p.void_list st.type_name st.int_type st.braced st.entries st.entry st.goes_on st.statement st.statement_inside st.start_at st.plain_at st.ended st.plain_inside st.release st.condition many all sign word name number is_at_sign is_at_word operator_at chain chained binary expression literal primary unary_in inside unary paren
 deep_at_71 main = refused_deep (deep_text main) (numbered 71 (Sign s.LeftParenthesis ∷ [])) refl

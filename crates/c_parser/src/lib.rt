@@ -6,8 +6,6 @@ mod cursor;
 mod expression;
 mod fault;
 mod statement;
-#[cfg(test)]
-mod tests;
 
 pub use block::braced;
 pub use cursor::Cursor;

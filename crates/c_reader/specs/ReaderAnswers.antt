@@ -1,4 +1,4 @@
--- What the reader answers to a whole text, against the parser on lists.
+-- Device: what the reader answers to a whole text, against the parser on lists.
 use Rattle.std.specs.Prelude.{◌≡◌, ℕ, List, [], Result, Ok, Err}
 use Rattle.c_grammar.specs.declared.item.Program.{Program}
 use Rattle.c_grammar.specs.BoundedTokens.{Tok}

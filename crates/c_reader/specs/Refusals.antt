@@ -1,4 +1,4 @@
--- Why a list of tokens is refused, and with which answer.
+-- Promise: why a list of tokens is refused, and with which answer.
 use Rattle.std.specs.Prelude.{◌≡◌, List}
 use Rattle.c_token.specs.declared.kinds.Kind.{Kind}
 use Rattle.c_grammar.specs.TokenPrograms.{AreProgram, IsExpectedAt, IsDeepAt, IsShallowBefore}

@@ -1,13 +1,13 @@
 //! Items, and whole programs.
 ghost use Rattle.std.specs.Prelude.{◌≡◌, [], OnOk};
-ghost use Rattle.c_descent.specs.ListParser.{separated, after_comma};
 ghost use Rattle.c_descent.specs.StatementParser.{statement};
 ghost use Rattle.c_descent.specs.ProgramParser.{heading_of, heading_at, optional_length, object_rest, object, value_with, negative_value, value, one_value, braced_values, values, constant_rest, constant, no_parameters, untrusted, parameter, void_list, listed, parameters, function_rest, void_function, storage_of, result_of, typed_rest, typed, declared, private_item, item_inside, items, program};
 ghost use Rattle.c_parser.specs.CursorAnswers.{Matches, TakesSome, LeavesUpTo};
 
+use crate::list::{Part, separated};
 use aegis_num::limits::{MAX_BINARY_OPERATORS, MAX_NESTING};
-use c_grammar::{Item, Kind3, Parameter, Program, Storage, Value};
 use c_descent::{Braces, Given, Heading, Named};
+use c_grammar::{Item, Kind3, Parameter, Program, Storage, Value};
 use c_parser::{Cursor, Fault, braced, type_name};
 use c_token::{Kind, Sign, Word};
 use sqlite_items::Items;
@@ -115,42 +115,17 @@ fn negative_value(cursor: &mut Cursor<'_>) -> Result<Value, Fault>
 }
 
 /// A value of a constant.
-#[tactic(auto, unfolding(c_descent::specs::ProgramParser::value))]
-fn value(cursor: &mut Cursor<'_>) -> Result<Value, Fault>
-    ensures reads { Matches result cursor.new (value cursor.old) }
-    ensures takes { TakesSome result cursor.old cursor.new }
-{
-    if cursor.is_at_sign(Sign::Minus) {
-        negative_value(cursor)
-    } else {
-        value_with(cursor, false)
-    }
-}
+impl Part for Value {
+    ghost parser = { value };
 
-/// A comma, and the value after it.
-#[tactic(auto, unfolding(c_descent::specs::ListParser::after_comma))]
-fn next_value(cursor: &mut Cursor<'_>) -> Result<Value, Fault>
-    ensures reads { Matches result cursor.new (after_comma value cursor.old) }
-    ensures takes { TakesSome result cursor.old cursor.new }
-{
-    cursor.sign(Sign::Comma)?;
-    value(cursor)
-}
-
-/// One or more values, with commas between them.
-#[tactic(auto, unfolding(c_descent::specs::ListParser::separated))]
-fn separated_values(alloc: Global, cursor: &mut Cursor<'_>) -> Result<Items<Value>, Fault>
-    ensures reads { Matches result cursor.new (separated value cursor.old) }
-    ensures takes { TakesSome result cursor.old cursor.new }
-{
-    let mut values = Items::new(alloc);
-    let first = value(cursor)?;
-    values.push(first)?;
-    'each: while cursor.is_at_sign(Sign::Comma) {
-        let next = next_value(cursor)?;
-        values.push(next)?;
+    #[tactic(auto, unfolding(c_descent::specs::ProgramParser::value))]
+    fn read(cursor: &mut Cursor<'_>) -> Result<Value, Fault> {
+        if cursor.is_at_sign(Sign::Minus) {
+            negative_value(cursor)
+        } else {
+            value_with(cursor, false)
+        }
     }
-    Ok(values)
 }
 
 /// A value alone.
@@ -159,7 +134,7 @@ fn one_value(alloc: Global, cursor: &mut Cursor<'_>) -> Result<Given, Fault>
     ensures reads { Matches result cursor.new (one_value cursor.old) }
     ensures takes { TakesSome result cursor.old cursor.new }
 {
-    let only = value(cursor)?;
+    let only = Value::read(cursor)?;
     let mut values = Items::new(alloc);
     values.push(only)?;
     Ok(Given {
@@ -175,7 +150,7 @@ fn braced_values(alloc: Global, cursor: &mut Cursor<'_>) -> Result<Given, Fault>
     ensures takes { TakesSome result cursor.old cursor.new }
 {
     cursor.sign(Sign::LeftBrace)?;
-    let values = separated_values(alloc, cursor)?;
+    let values: Items<Value> = separated(alloc, cursor)?;
     cursor.sign(Sign::RightBrace)?;
     Ok(Given {
         values,
@@ -262,44 +237,19 @@ fn untrusted(cursor: &mut Cursor<'_>) -> Result<Item, Fault>
 }
 
 /// A parameter.
-#[tactic(auto, unfolding(c_descent::specs::ProgramParser::parameter))]
-fn parameter(cursor: &mut Cursor<'_>) -> Result<Parameter, Fault>
-    ensures reads { Matches result cursor.new (parameter cursor.old) }
-    ensures takes { TakesSome result cursor.old cursor.new }
-{
-    let unsigned = type_name(cursor)?;
-    let found = cursor.name()?;
-    Ok(Parameter {
-        unsigned,
-        name: found.name,
-        token: found.token,
-    })
-}
+impl Part for Parameter {
+    ghost parser = { parameter };
 
-/// A comma, and the parameter after it.
-#[tactic(auto, unfolding(c_descent::specs::ListParser::after_comma))]
-fn next_parameter(cursor: &mut Cursor<'_>) -> Result<Parameter, Fault>
-    ensures reads { Matches result cursor.new (after_comma parameter cursor.old) }
-    ensures takes { TakesSome result cursor.old cursor.new }
-{
-    cursor.sign(Sign::Comma)?;
-    parameter(cursor)
-}
-
-/// One or more parameters, with commas between them.
-#[tactic(auto, unfolding(c_descent::specs::ListParser::separated))]
-fn separated_parameters(alloc: Global, cursor: &mut Cursor<'_>) -> Result<Items<Parameter>, Fault>
-    ensures reads { Matches result cursor.new (separated parameter cursor.old) }
-    ensures takes { TakesSome result cursor.old cursor.new }
-{
-    let mut parameters = Items::new(alloc);
-    let first = parameter(cursor)?;
-    parameters.push(first)?;
-    'each: while cursor.is_at_sign(Sign::Comma) {
-        let next = next_parameter(cursor)?;
-        parameters.push(next)?;
+    #[tactic(auto, unfolding(c_descent::specs::ProgramParser::parameter))]
+    fn read(cursor: &mut Cursor<'_>) -> Result<Parameter, Fault> {
+        let unsigned = type_name(cursor)?;
+        let found = cursor.name()?;
+        Ok(Parameter {
+            unsigned,
+            name: found.name,
+            token: found.token,
+        })
     }
-    Ok(parameters)
 }
 
 /// The word `void` in the place of parameters.
@@ -324,7 +274,7 @@ fn listed(alloc: Global, cursor: &mut Cursor<'_>) -> Result<Items<Parameter>, Fa
     if cursor.is_at_word(Word::Void) {
         return void_list(alloc, cursor);
     }
-    separated_parameters(alloc, cursor)
+    separated(alloc, cursor)
 }
 
 /// `(`, parameters and `)`.

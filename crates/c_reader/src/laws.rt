@@ -1,7 +1,9 @@
 //! A law of the grammar.
 ghost use Rattle.c_reader.specs.Refusals.{OneProgram};
+ghost use Rattle.c_reader.specs.SourceText.{OneProgramOfText};
 
-/// Tokens are at most one program.
+/// Tokens are at most one program, and so is a text.
 pub fn one_program()
     ensures one { OneProgram }
+    ensures text { OneProgramOfText }
 {}

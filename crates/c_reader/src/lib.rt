@@ -4,6 +4,7 @@
 mod error;
 mod item;
 mod laws;
+mod list;
 mod reading;
 #[cfg(test)]
 mod tests;

@@ -2,15 +2,14 @@
 use Rattle.std.proofs.Common.{◌<◌, length}
 use Rattle.c_token.specs.declared.signs.Sign.TheVariants.{Comma}
 use Rattle.c_descent.specs.ListParser.{is_at_sign, separated, after_comma}
-use Rattle.c_descent.specs.ProgramParser.{parameter}
 use Rattle.c_parser.proofs.Loops.{Grows}
-use Rattle.c_reader.proofs.item.separated_parameters.Given as goal
+use Rattle.c_reader.proofs.list.separated.Given as goal
 
 abbrev pub invariant-each : goal.invariant-each
-invariant-each l = record {
-  grows : Grows (separated parameter l.fn.cursor) (is_at_sign Comma) (after_comma parameter) l.parameters l.cursor;
+invariant-each g l = record {
+  grows : Grows (separated g.P.Part.parser l.fn.cursor) (is_at_sign Comma) (after_comma g.P.Part.parser) l.parts l.cursor;
   fits : length l.cursor < length l.fn.cursor;
 }
 
 abbrev pub decreases-each : goal.decreases-each
-decreases-each l = length l.cursor
+decreases-each g l = length l.cursor
