@@ -35,7 +35,7 @@ expr_Number-parts : (value value2 : ℕ) (unsigned unsigned2 : Bool) (m n : ℕ)
     → (value ≡ value2) × (unsigned ≡ unsigned2)
 expr_Number-parts value value2 unsigned unsigned2 m n same =
     let layers : Expr-F.Number value unsigned 0 ≡ Expr-F.Number value2 unsigned2 0 =
-        sym (layer-expr_Number value unsigned 0) ∙ ap out-Expr (sym (forms.bare_expr-Number value unsigned m) ∙ same ∙ forms.bare_expr-Number value2 unsigned2 n) ∙ layer-expr_Number value2 unsigned2 0 in
+    sym (layer-expr_Number value unsigned 0) ∙ ap out-Expr (sym (forms.bare_expr-Number value unsigned m) ∙ same ∙ forms.bare_expr-Number value2 unsigned2 n) ∙ layer-expr_Number value2 unsigned2 0 in
     (cc, cc)
 
 layer-expr_Name : (name : List ℕ) (token : ℕ) → out-Expr (e.Name name token) ≡ Expr-F.Name name token
@@ -45,7 +45,7 @@ expr_Name-parts : (name name2 : List ℕ) (m n : ℕ) → bare_expr (e.Name name
     → name ≡ name2
 expr_Name-parts name name2 m n same =
     let layers : Expr-F.Name name 0 ≡ Expr-F.Name name2 0 =
-        sym (layer-expr_Name name 0) ∙ ap out-Expr (sym (forms.bare_expr-Name name m) ∙ same ∙ forms.bare_expr-Name name2 n) ∙ layer-expr_Name name2 0 in
+    sym (layer-expr_Name name 0) ∙ ap out-Expr (sym (forms.bare_expr-Name name m) ∙ same ∙ forms.bare_expr-Name name2 n) ∙ layer-expr_Name name2 0 in
     cc
 
 layer-expr_Index : (name : List ℕ) (index : Expr) (token : ℕ) → out-Expr (e.Index name index token) ≡ Expr-F.Index name index token
@@ -55,7 +55,7 @@ expr_Index-parts : (name name2 : List ℕ) (index index2 : Expr) (m n : ℕ) →
     → (name ≡ name2) × (bare_expr index ≡ bare_expr index2)
 expr_Index-parts name name2 index index2 m n same =
     let layers : Expr-F.Index name (bare_expr index) 0 ≡ Expr-F.Index name2 (bare_expr index2) 0 =
-        sym (layer-expr_Index name (bare_expr index) 0) ∙ ap out-Expr (sym (forms.bare_expr-Index name index m) ∙ same ∙ forms.bare_expr-Index name2 index2 n) ∙ layer-expr_Index name2 (bare_expr index2) 0 in
+    sym (layer-expr_Index name (bare_expr index) 0) ∙ ap out-Expr (sym (forms.bare_expr-Index name index m) ∙ same ∙ forms.bare_expr-Index name2 index2 n) ∙ layer-expr_Index name2 (bare_expr index2) 0 in
     (cc, cc)
 
 layer-expr_Call : (name : List ℕ) (arguments : List Expr) (token : ℕ) → out-Expr (e.Call name arguments token) ≡ Expr-F.Call name arguments token
@@ -65,7 +65,7 @@ expr_Call-parts : (name name2 : List ℕ) (arguments arguments2 : List Expr) (m 
     → (name ≡ name2) × (map bare_expr arguments ≡ map bare_expr arguments2)
 expr_Call-parts name name2 arguments arguments2 m n same =
     let layers : Expr-F.Call name (map bare_expr arguments) 0 ≡ Expr-F.Call name2 (map bare_expr arguments2) 0 =
-        sym (layer-expr_Call name (map bare_expr arguments) 0) ∙ ap out-Expr (sym (forms.bare_expr-Call name arguments m) ∙ same ∙ forms.bare_expr-Call name2 arguments2 n) ∙ layer-expr_Call name2 (map bare_expr arguments2) 0 in
+    sym (layer-expr_Call name (map bare_expr arguments) 0) ∙ ap out-Expr (sym (forms.bare_expr-Call name arguments m) ∙ same ∙ forms.bare_expr-Call name2 arguments2 n) ∙ layer-expr_Call name2 (map bare_expr arguments2) 0 in
     (cc, cc)
 
 layer-expr_Paren : (inner : Expr) (token : ℕ) → out-Expr (e.Paren inner token) ≡ Expr-F.Paren inner token
@@ -75,7 +75,7 @@ expr_Paren-parts : (inner inner2 : Expr) (m n : ℕ) → bare_expr (e.Paren inne
     → bare_expr inner ≡ bare_expr inner2
 expr_Paren-parts inner inner2 m n same =
     let layers : Expr-F.Paren (bare_expr inner) 0 ≡ Expr-F.Paren (bare_expr inner2) 0 =
-        sym (layer-expr_Paren (bare_expr inner) 0) ∙ ap out-Expr (sym (forms.bare_expr-Paren inner m) ∙ same ∙ forms.bare_expr-Paren inner2 n) ∙ layer-expr_Paren (bare_expr inner2) 0 in
+    sym (layer-expr_Paren (bare_expr inner) 0) ∙ ap out-Expr (sym (forms.bare_expr-Paren inner m) ∙ same ∙ forms.bare_expr-Paren inner2 n) ∙ layer-expr_Paren (bare_expr inner2) 0 in
     cc
 
 layer-expr_Unary : (op : Sign) (inner : Expr) (token : ℕ) → out-Expr (e.Unary op inner token) ≡ Expr-F.Unary op inner token
@@ -85,7 +85,7 @@ expr_Unary-parts : (op op2 : Sign) (inner inner2 : Expr) (m n : ℕ) → bare_ex
     → (op ≡ op2) × (bare_expr inner ≡ bare_expr inner2)
 expr_Unary-parts op op2 inner inner2 m n same =
     let layers : Expr-F.Unary op (bare_expr inner) 0 ≡ Expr-F.Unary op2 (bare_expr inner2) 0 =
-        sym (layer-expr_Unary op (bare_expr inner) 0) ∙ ap out-Expr (sym (forms.bare_expr-Unary op inner m) ∙ same ∙ forms.bare_expr-Unary op2 inner2 n) ∙ layer-expr_Unary op2 (bare_expr inner2) 0 in
+    sym (layer-expr_Unary op (bare_expr inner) 0) ∙ ap out-Expr (sym (forms.bare_expr-Unary op inner m) ∙ same ∙ forms.bare_expr-Unary op2 inner2 n) ∙ layer-expr_Unary op2 (bare_expr inner2) 0 in
     (cc, cc)
 
 layer-expr_Binary : (op : Sign) (left : Expr) (right : Expr) (token : ℕ) → out-Expr (e.Binary op left right token) ≡ Expr-F.Binary op left right token
@@ -95,7 +95,7 @@ expr_Binary-parts : (op op2 : Sign) (left left2 : Expr) (right right2 : Expr) (m
     → (op ≡ op2) × (bare_expr left ≡ bare_expr left2) × (bare_expr right ≡ bare_expr right2)
 expr_Binary-parts op op2 left left2 right right2 m n same =
     let layers : Expr-F.Binary op (bare_expr left) (bare_expr right) 0 ≡ Expr-F.Binary op2 (bare_expr left2) (bare_expr right2) 0 =
-        sym (layer-expr_Binary op (bare_expr left) (bare_expr right) 0) ∙ ap out-Expr (sym (forms.bare_expr-Binary op left right m) ∙ same ∙ forms.bare_expr-Binary op2 left2 right2 n) ∙ layer-expr_Binary op2 (bare_expr left2) (bare_expr right2) 0 in
+    sym (layer-expr_Binary op (bare_expr left) (bare_expr right) 0) ∙ ap out-Expr (sym (forms.bare_expr-Binary op left right m) ∙ same ∙ forms.bare_expr-Binary op2 left2 right2 n) ∙ layer-expr_Binary op2 (bare_expr left2) (bare_expr right2) 0 in
     (cc, cc, cc)
 
 layer-stmt_Block : (body : List Stmt) (token : ℕ) → out-Stmt (s.Block body token) ≡ Stmt-F.Block body token
@@ -105,7 +105,7 @@ stmt_Block-parts : (body body2 : List Stmt) (m n : ℕ) → bare_stmt (s.Block b
     → map bare_stmt body ≡ map bare_stmt body2
 stmt_Block-parts body body2 m n same =
     let layers : Stmt-F.Block (map bare_stmt body) 0 ≡ Stmt-F.Block (map bare_stmt body2) 0 =
-        sym (layer-stmt_Block (map bare_stmt body) 0) ∙ ap out-Stmt (sym (forms.bare_stmt-Block body m) ∙ same ∙ forms.bare_stmt-Block body2 n) ∙ layer-stmt_Block (map bare_stmt body2) 0 in
+    sym (layer-stmt_Block (map bare_stmt body) 0) ∙ ap out-Stmt (sym (forms.bare_stmt-Block body m) ∙ same ∙ forms.bare_stmt-Block body2 n) ∙ layer-stmt_Block (map bare_stmt body2) 0 in
     cc
 
 layer-stmt_Local : (unsigned : Bool) (name : List ℕ) (value : Option Expr) (token : ℕ) → out-Stmt (s.Local unsigned name value token) ≡ Stmt-F.Local unsigned name value token
@@ -115,7 +115,7 @@ stmt_Local-parts : (unsigned unsigned2 : Bool) (name name2 : List ℕ) (value va
     → (unsigned ≡ unsigned2) × (name ≡ name2) × (option_map bare_expr value ≡ option_map bare_expr value2)
 stmt_Local-parts unsigned unsigned2 name name2 value value2 m n same =
     let layers : Stmt-F.Local unsigned name (option_map bare_expr value) 0 ≡ Stmt-F.Local unsigned2 name2 (option_map bare_expr value2) 0 =
-        sym (layer-stmt_Local unsigned name (option_map bare_expr value) 0) ∙ ap out-Stmt (sym (forms.bare_stmt-Local unsigned name value m) ∙ same ∙ forms.bare_stmt-Local unsigned2 name2 value2 n) ∙ layer-stmt_Local unsigned2 name2 (option_map bare_expr value2) 0 in
+    sym (layer-stmt_Local unsigned name (option_map bare_expr value) 0) ∙ ap out-Stmt (sym (forms.bare_stmt-Local unsigned name value m) ∙ same ∙ forms.bare_stmt-Local unsigned2 name2 value2 n) ∙ layer-stmt_Local unsigned2 name2 (option_map bare_expr value2) 0 in
     (cc, cc, cc)
 
 layer-stmt_Assign : (name : List ℕ) (index : Option Expr) (value : Expr) (token : ℕ) → out-Stmt (s.Assign name index value token) ≡ Stmt-F.Assign name index value token
@@ -125,7 +125,7 @@ stmt_Assign-parts : (name name2 : List ℕ) (index index2 : Option Expr) (value 
     → (name ≡ name2) × (option_map bare_expr index ≡ option_map bare_expr index2) × (bare_expr value ≡ bare_expr value2)
 stmt_Assign-parts name name2 index index2 value value2 m n same =
     let layers : Stmt-F.Assign name (option_map bare_expr index) (bare_expr value) 0 ≡ Stmt-F.Assign name2 (option_map bare_expr index2) (bare_expr value2) 0 =
-        sym (layer-stmt_Assign name (option_map bare_expr index) (bare_expr value) 0) ∙ ap out-Stmt (sym (forms.bare_stmt-Assign name index value m) ∙ same ∙ forms.bare_stmt-Assign name2 index2 value2 n) ∙ layer-stmt_Assign name2 (option_map bare_expr index2) (bare_expr value2) 0 in
+    sym (layer-stmt_Assign name (option_map bare_expr index) (bare_expr value) 0) ∙ ap out-Stmt (sym (forms.bare_stmt-Assign name index value m) ∙ same ∙ forms.bare_stmt-Assign name2 index2 value2 n) ∙ layer-stmt_Assign name2 (option_map bare_expr index2) (bare_expr value2) 0 in
     (cc, cc, cc)
 
 layer-stmt_Call : (name : List ℕ) (arguments : List Expr) (token : ℕ) → out-Stmt (s.Call name arguments token) ≡ Stmt-F.Call name arguments token
@@ -135,7 +135,7 @@ stmt_Call-parts : (name name2 : List ℕ) (arguments arguments2 : List Expr) (m 
     → (name ≡ name2) × (map bare_expr arguments ≡ map bare_expr arguments2)
 stmt_Call-parts name name2 arguments arguments2 m n same =
     let layers : Stmt-F.Call name (map bare_expr arguments) 0 ≡ Stmt-F.Call name2 (map bare_expr arguments2) 0 =
-        sym (layer-stmt_Call name (map bare_expr arguments) 0) ∙ ap out-Stmt (sym (forms.bare_stmt-Call name arguments m) ∙ same ∙ forms.bare_stmt-Call name2 arguments2 n) ∙ layer-stmt_Call name2 (map bare_expr arguments2) 0 in
+    sym (layer-stmt_Call name (map bare_expr arguments) 0) ∙ ap out-Stmt (sym (forms.bare_stmt-Call name arguments m) ∙ same ∙ forms.bare_stmt-Call name2 arguments2 n) ∙ layer-stmt_Call name2 (map bare_expr arguments2) 0 in
     (cc, cc)
 
 layer-stmt_Release : (value : Expr) (token : ℕ) → out-Stmt (s.Release value token) ≡ Stmt-F.Release value token
@@ -145,7 +145,7 @@ stmt_Release-parts : (value value2 : Expr) (m n : ℕ) → bare_stmt (s.Release 
     → bare_expr value ≡ bare_expr value2
 stmt_Release-parts value value2 m n same =
     let layers : Stmt-F.Release (bare_expr value) 0 ≡ Stmt-F.Release (bare_expr value2) 0 =
-        sym (layer-stmt_Release (bare_expr value) 0) ∙ ap out-Stmt (sym (forms.bare_stmt-Release value m) ∙ same ∙ forms.bare_stmt-Release value2 n) ∙ layer-stmt_Release (bare_expr value2) 0 in
+    sym (layer-stmt_Release (bare_expr value) 0) ∙ ap out-Stmt (sym (forms.bare_stmt-Release value m) ∙ same ∙ forms.bare_stmt-Release value2 n) ∙ layer-stmt_Release (bare_expr value2) 0 in
     cc
 
 layer-stmt_Return : (value : Option Expr) (token : ℕ) → out-Stmt (s.Return value token) ≡ Stmt-F.Return value token
@@ -155,7 +155,7 @@ stmt_Return-parts : (value value2 : Option Expr) (m n : ℕ) → bare_stmt (s.Re
     → option_map bare_expr value ≡ option_map bare_expr value2
 stmt_Return-parts value value2 m n same =
     let layers : Stmt-F.Return (option_map bare_expr value) 0 ≡ Stmt-F.Return (option_map bare_expr value2) 0 =
-        sym (layer-stmt_Return (option_map bare_expr value) 0) ∙ ap out-Stmt (sym (forms.bare_stmt-Return value m) ∙ same ∙ forms.bare_stmt-Return value2 n) ∙ layer-stmt_Return (option_map bare_expr value2) 0 in
+    sym (layer-stmt_Return (option_map bare_expr value) 0) ∙ ap out-Stmt (sym (forms.bare_stmt-Return value m) ∙ same ∙ forms.bare_stmt-Return value2 n) ∙ layer-stmt_Return (option_map bare_expr value2) 0 in
     cc
 
 layer-stmt_If : (test : Expr) (body : Stmt) (other : Option Stmt) (token : ℕ) → out-Stmt (s.If test body other token) ≡ Stmt-F.If test body other token
@@ -166,7 +166,7 @@ stmt_If-parts : (test test2 : Expr) (body body2 : Stmt) (other other2 : Option S
     → (bare_expr test ≡ bare_expr test2) × (bare_stmt body ≡ bare_stmt body2) × (option_map bare_stmt other ≡ option_map bare_stmt other2)
 stmt_If-parts test test2 body body2 other other2 m n same =
     let layers : Stmt-F.If (bare_expr test) (bare_stmt body) (option_map bare_stmt other) 0 ≡ Stmt-F.If (bare_expr test2) (bare_stmt body2) (option_map bare_stmt other2) 0 =
-        sym (layer-stmt_If (bare_expr test) (bare_stmt body) (option_map bare_stmt other) 0) ∙ ap out-Stmt (sym (forms.bare_stmt-If test body other m) ∙ same ∙ forms.bare_stmt-If test2 body2 other2 n) ∙ layer-stmt_If (bare_expr test2) (bare_stmt body2) (option_map bare_stmt other2) 0 in
+    sym (layer-stmt_If (bare_expr test) (bare_stmt body) (option_map bare_stmt other) 0) ∙ ap out-Stmt (sym (forms.bare_stmt-If test body other m) ∙ same ∙ forms.bare_stmt-If test2 body2 other2 n) ∙ layer-stmt_If (bare_expr test2) (bare_stmt body2) (option_map bare_stmt other2) 0 in
     (cc, cc, cc)
 
 layer-stmt_While : (test : Expr) (body : Stmt) (token : ℕ) → out-Stmt (s.While test body token) ≡ Stmt-F.While test body token
@@ -176,7 +176,7 @@ stmt_While-parts : (test test2 : Expr) (body body2 : Stmt) (m n : ℕ) → bare_
     → (bare_expr test ≡ bare_expr test2) × (bare_stmt body ≡ bare_stmt body2)
 stmt_While-parts test test2 body body2 m n same =
     let layers : Stmt-F.While (bare_expr test) (bare_stmt body) 0 ≡ Stmt-F.While (bare_expr test2) (bare_stmt body2) 0 =
-        sym (layer-stmt_While (bare_expr test) (bare_stmt body) 0) ∙ ap out-Stmt (sym (forms.bare_stmt-While test body m) ∙ same ∙ forms.bare_stmt-While test2 body2 n) ∙ layer-stmt_While (bare_expr test2) (bare_stmt body2) 0 in
+    sym (layer-stmt_While (bare_expr test) (bare_stmt body) 0) ∙ ap out-Stmt (sym (forms.bare_stmt-While test body m) ∙ same ∙ forms.bare_stmt-While test2 body2 n) ∙ layer-stmt_While (bare_expr test2) (bare_stmt body2) 0 in
     (cc, cc)
 
 layer-stmt_For : (first : Option Stmt) (test : Option Expr) (step : Option Stmt) (body : Stmt) (token : ℕ) → out-Stmt (s.For first test step body token) ≡ Stmt-F.For first test step body token
@@ -189,7 +189,7 @@ stmt_For-parts : (first first2 : Option Stmt) (test test2 : Option Expr) (step s
     → (option_map bare_stmt first ≡ option_map bare_stmt first2) × (option_map bare_expr test ≡ option_map bare_expr test2) × (option_map bare_stmt step ≡ option_map bare_stmt step2) × (bare_stmt body ≡ bare_stmt body2)
 stmt_For-parts first first2 test test2 step step2 body body2 m n same =
     let layers : Stmt-F.For (option_map bare_stmt first) (option_map bare_expr test) (option_map bare_stmt step) (bare_stmt body) 0 ≡ Stmt-F.For (option_map bare_stmt first2) (option_map bare_expr test2) (option_map bare_stmt step2) (bare_stmt body2) 0 =
-        sym (layer-stmt_For (option_map bare_stmt first) (option_map bare_expr test) (option_map bare_stmt step) (bare_stmt body) 0) ∙ ap out-Stmt (sym (forms.bare_stmt-For first test step body m) ∙ same ∙ forms.bare_stmt-For first2 test2 step2 body2 n) ∙ layer-stmt_For (option_map bare_stmt first2) (option_map bare_expr test2) (option_map bare_stmt step2) (bare_stmt body2) 0 in
+    sym (layer-stmt_For (option_map bare_stmt first) (option_map bare_expr test) (option_map bare_stmt step) (bare_stmt body) 0) ∙ ap out-Stmt (sym (forms.bare_stmt-For first test step body m) ∙ same ∙ forms.bare_stmt-For first2 test2 step2 body2 n) ∙ layer-stmt_For (option_map bare_stmt first2) (option_map bare_expr test2) (option_map bare_stmt step2) (bare_stmt body2) 0 in
     (cc, cc, cc, cc)
 
 item_Object-parts : (class class2 : Storage) (unsigned unsigned2 : Bool) (name name2 : List ℕ) (length length2 : Option ℕ) (m n : ℕ) → bare_item (i.Object class unsigned name length m) ≡ bare_item (i.Object class2 unsigned2 name2 length2 n)

@@ -1,5 +1,8 @@
 -- Worked derivations of the grammar, step by step.
-use Rattle.std.proofs.Common.{ℕ, suc, true, false, List, [], ◌∷◌, None, Some, refl, arith}
+use Rattle.std.proofs.Common.{◌≡◌, ℕ, suc, true, false, List, [], ◌∷◌, None, Some, refl, arith}
+use Rattle.std.specs.Prelude.{map}
+use Rattle.aegis_num.specs.declared.limits.TheConstants.{MAX_NESTING, MAX_BINARY_OPERATORS}
+use Rattle.c_token.specs.declared.signs.Sign.{Sign as ASign}
 use Rattle.c_token.specs.declared.kinds.Kind.TheVariants.{Name, Number, Word, Sign}
 use Rattle.c_token.specs.declared.words.Word.TheVariants as words
 use Rattle.c_token.specs.declared.signs.Sign.TheVariants as signs
@@ -13,7 +16,8 @@ use Rattle.c_grammar.specs.ExpressionGrammar.{Expression, Binary, Unary}
 use Rattle.c_grammar.specs.StatementGrammar as s
 use Rattle.c_grammar.specs.StatementGrammar.{Statement, Body}
 use Rattle.c_grammar.specs.ProgramGrammar as p
-use Rattle.c_grammar.specs.TokenPrograms.{AreProgram}
+use Rattle.c_grammar.specs.TokenPrograms.{AreProgram, limit}
+use Rattle.c_grammar.specs.Precedence.{precedence, loosest, is_unary_operator}
 
 -- the token with this number, within the limits
 abbrev at : ℕ → Spot
@@ -68,3 +72,25 @@ hi : (main : List ℕ) → AreProgram
 hi main = p.AreItems.further (p.function (at 1) (at 2) (at 4) (at 5) (at 19) main p.IsPrivate.nothing (p.IsResult.int (at 0) (s.int (at 0))) (p.AreParameters.void (at 3))
     (s.Body.statement (release 6 72) (s.Body.statement (release 11 105)
     (s.Body.statement (s.return (at 16) (at 18) (omega arith) (s.given (number 1 17 0))) s.Body.nothing)))) p.AreItems.nothing
+
+-- the operators of two operands by the sections of the standard, the tightest first, the signs that are none, and the operators of one operand
+precedences : map precedence (signs.Star ∷ signs.Slash ∷ signs.Percent ∷ signs.Plus ∷ signs.Minus ∷ signs.ShiftLeft ∷ signs.ShiftRight
+    ∷ signs.LessThan ∷ signs.GreaterThan ∷ signs.LessOrEqual ∷ signs.GreaterOrEqual ∷ signs.EqualTo ∷ signs.NotEqualTo
+    ∷ signs.Ampersand ∷ signs.Caret ∷ signs.VerticalBar ∷ signs.LogicalAnd ∷ signs.LogicalOr ∷ [])
+    ≡ 1 ∷ 1 ∷ 1 ∷ 2 ∷ 2 ∷ 3 ∷ 3 ∷ 4 ∷ 4 ∷ 4 ∷ 4 ∷ 5 ∷ 5 ∷ 6 ∷ 7 ∷ 8 ∷ 9 ∷ loosest ∷ []
+precedences = refl
+
+abbrev others : List ASign
+others = signs.LeftParenthesis ∷ signs.RightParenthesis ∷ signs.LeftBrace ∷ signs.RightBrace ∷ signs.LeftBracket ∷ signs.RightBracket
+    ∷ signs.Semicolon ∷ signs.Comma ∷ signs.Assign ∷ signs.Tilde ∷ signs.Exclamation ∷ []
+
+no_precedences : map precedence others ≡ 0 ∷ 0 ∷ 0 ∷ 0 ∷ 0 ∷ 0 ∷ 0 ∷ 0 ∷ 0 ∷ 0 ∷ 0 ∷ []
+no_precedences = refl
+
+unary_operators : map is_unary_operator (signs.Plus ∷ signs.Minus ∷ signs.Star ∷ signs.Ampersand ∷ others) ≡ false ∷ true ∷ false ∷ false
+    ∷ false ∷ false ∷ false ∷ false ∷ false ∷ false ∷ false ∷ false ∷ false ∷ true ∷ true ∷ []
+unary_operators = refl
+
+-- the two limits are one
+limits : (limit ≡ MAX_NESTING) × (limit ≡ MAX_BINARY_OPERATORS)
+limits = (refl, refl)

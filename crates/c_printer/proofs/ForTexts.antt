@@ -7,7 +7,7 @@ use Rattle.c_grammar.specs.declared.Expr.{Expr}
 use Rattle.c_grammar.specs.declared.Stmt.{Stmt}
 use Rattle.c_grammar.specs.declared.stmt.Stmt.TheVariants.{For}
 use Rattle.c_grammar.specs.declared.stmt.Stmt.TheOpen.{Stmt-F}
-use Rattle.c_printer.specs.PrintedTokens.{stmt_step, stmt_kinds, head_kinds, in_code}
+use Rattle.c_printer.specs.PrintedTokens.{printed_stmt_layer, stmt_kinds, head_kinds, in_code}
 use Rattle.c_printer.proofs.PrintedForms.{stmt_kinds-For}
 use Rattle.c_printer.specs.PrintedParts.{spaced_token, spaced_tokens, head_begin_kinds, head_end_kinds}
 
@@ -15,7 +15,7 @@ parts : (a b c : List Kind) → spaced_tokens (head_begin_kinds a) ++ (spaced_to
 parts a b c = sym (flat_map-append spaced_token (head_begin_kinds a) (b ++ c) ∙ ap (λ text. spaced_tokens (head_begin_kinds a) ++ text) (flat_map-append spaced_token b c))
 
 -- the printed tokens of a head and a body, in one
-shape : (a : List Kind) (test : Option Expr) (last c : List Kind) → stmt_step (Stmt-F.For (Some (λ _. a)) test (Some (λ _. last)) (λ _. c) 0) in_code ≡ head_begin_kinds a ++ (head_end_kinds test last ++ c)
+shape : (a : List Kind) (test : Option Expr) (last c : List Kind) → printed_stmt_layer (Stmt-F.For (Some (λ _. a)) test (Some (λ _. last)) (λ _. c) 0) in_code ≡ head_begin_kinds a ++ (head_end_kinds test last ++ c)
 shape a test last c = simp append_assoc
 
 pub for_text : (old begun ended new : List ℕ) (stmt : Stmt) (first : Option Stmt) (test : Option Expr) (step : Option Stmt) (body inner : Stmt) (token : ℕ)

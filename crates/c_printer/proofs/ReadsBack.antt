@@ -12,7 +12,7 @@ use Rattle.c_grammar.specs.Bare.{bare}
 use Rattle.c_grammar.proofs.AlikeKinds.{alike_numbered, numbered_limited, kinds-numbered}
 use Rattle.c_grammar.proofs.AlikePrograms.{same_program}
 use Rattle.c_printer.specs.PrintedTokens.{program_kinds}
-use Rattle.c_printer.specs.Printing.{program_text, IsPrintable, ReadsBack}
+use Rattle.c_printer.specs.ProgramPrinting.{program_text, IsPrintable, ReadsBack}
 use Rattle.c_printer.proofs.FineTokens.{AreFine, fine_from, fine_limited, fine_in_form}
 use Rattle.c_printer.proofs.PrintedPrograms.{printed_program}
 

@@ -13,7 +13,7 @@ use Rattle.c_grammar.specs.ExpressionGrammar.{Expression, Binary, Unary, Primary
 use Rattle.c_grammar.specs.StatementGrammar.{IsType, Simple, Statement, Maybe, Body}
 use Rattle.c_grammar.specs.ProgramGrammar.{IsPrivate, IsResult, AreParameters, IsItem, AreItems}
 use Rattle.c_printer.specs.PrintedExample.{release_of, worked_program}
-use Rattle.c_printer.specs.Printing.{IsPrintable}
+use Rattle.c_printer.specs.ProgramPrinting.{IsPrintable}
 
 abbrev spot : ℕ → Spot
 spot place = record { place = place; bound = 64 }

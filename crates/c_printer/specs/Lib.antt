@@ -1,4 +1,4 @@
 pub mod PrintedTokens
-pub mod Printing
+pub mod ProgramPrinting
 pub mod PrintedParts
 pub mod PrintedExample

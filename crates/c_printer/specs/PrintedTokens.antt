@@ -32,19 +32,19 @@ with_commas [] = []
 with_commas (part ∷ parts) = part ++ after_commas parts
 
 -- an expression, with the tokens of each expression inside it in its place
-abbrev pub expr_step : Expr-F (List Kind) → List Kind
-expr_step (Expr-F.Number value unsigned token) = kinds.Number value unsigned ∷ []
-expr_step (Expr-F.Name name token) = kinds.Name name ∷ []
-expr_step (Expr-F.Index name index token) = kinds.Name name ∷ kinds.Sign signs.LeftBracket ∷ (index ++ kinds.Sign signs.RightBracket ∷ [])
-expr_step (Expr-F.Call name arguments token) = kinds.Name name ∷ kinds.Sign signs.LeftParenthesis ∷ (with_commas arguments ++ kinds.Sign signs.RightParenthesis ∷ [])
-expr_step (Expr-F.Input token) = kinds.Word words.Input ∷ kinds.Sign signs.LeftParenthesis ∷ kinds.Sign signs.RightParenthesis ∷ []
-expr_step (Expr-F.Paren inner token) = kinds.Sign signs.LeftParenthesis ∷ (inner ++ kinds.Sign signs.RightParenthesis ∷ [])
-expr_step (Expr-F.Unary op inner token) = kinds.Sign op ∷ inner
-expr_step (Expr-F.Binary op left right token) = left ++ kinds.Sign op ∷ right
+abbrev pub printed_expr_layer : Expr-F (List Kind) → List Kind
+printed_expr_layer (Expr-F.Number value unsigned token) = kinds.Number value unsigned ∷ []
+printed_expr_layer (Expr-F.Name name token) = kinds.Name name ∷ []
+printed_expr_layer (Expr-F.Index name index token) = kinds.Name name ∷ kinds.Sign signs.LeftBracket ∷ (index ++ kinds.Sign signs.RightBracket ∷ [])
+printed_expr_layer (Expr-F.Call name arguments token) = kinds.Name name ∷ kinds.Sign signs.LeftParenthesis ∷ (with_commas arguments ++ kinds.Sign signs.RightParenthesis ∷ [])
+printed_expr_layer (Expr-F.Input token) = kinds.Word words.Input ∷ kinds.Sign signs.LeftParenthesis ∷ kinds.Sign signs.RightParenthesis ∷ []
+printed_expr_layer (Expr-F.Paren inner token) = kinds.Sign signs.LeftParenthesis ∷ (inner ++ kinds.Sign signs.RightParenthesis ∷ [])
+printed_expr_layer (Expr-F.Unary op inner token) = kinds.Sign op ∷ inner
+printed_expr_layer (Expr-F.Binary op left right token) = left ++ kinds.Sign op ∷ right
 
 -- the tokens of an expression
 abbrev pub expr_kinds : Expr → List Kind
-expr_kinds = fold-Expr (List Kind) expr_step
+expr_kinds = fold-Expr (List Kind) printed_expr_layer
 
 -- `int` or `unsigned`
 abbrev pub type_kind : Bool → Kind
@@ -95,23 +95,23 @@ in_a_row [] = []
 in_a_row (part ∷ parts) = part in_code ++ in_a_row parts
 
 -- a statement, with the tokens of each statement inside it in its place
-abbrev pub stmt_step : Stmt-F (Standing → List Kind) → Standing → List Kind
-stmt_step (Stmt-F.Block body token) standing = kinds.Sign signs.LeftBrace ∷ (in_a_row body ++ kinds.Sign signs.RightBrace ∷ [])
-stmt_step (Stmt-F.Empty token) standing = kinds.Sign signs.Semicolon ∷ []
-stmt_step (Stmt-F.Local unsigned name value token) standing = type_kind unsigned ∷ kinds.Name name ∷ (initial_kinds value ++ ending standing)
-stmt_step (Stmt-F.Assign name index value token) standing = kinds.Name name ∷ (subscript_kinds index ++ kinds.Sign signs.Assign ∷ (expr_kinds value ++ ending standing))
-stmt_step (Stmt-F.Call name arguments token) standing = kinds.Name name ∷ (arguments_kinds arguments ++ ending standing)
-stmt_step (Stmt-F.Release value token) standing =
+abbrev pub printed_stmt_layer : Stmt-F (Standing → List Kind) → Standing → List Kind
+printed_stmt_layer (Stmt-F.Block body token) standing = kinds.Sign signs.LeftBrace ∷ (in_a_row body ++ kinds.Sign signs.RightBrace ∷ [])
+printed_stmt_layer (Stmt-F.Empty token) standing = kinds.Sign signs.Semicolon ∷ []
+printed_stmt_layer (Stmt-F.Local unsigned name value token) standing = type_kind unsigned ∷ kinds.Name name ∷ (initial_kinds value ++ ending standing)
+printed_stmt_layer (Stmt-F.Assign name index value token) standing = kinds.Name name ∷ (subscript_kinds index ++ kinds.Sign signs.Assign ∷ (expr_kinds value ++ ending standing))
+printed_stmt_layer (Stmt-F.Call name arguments token) standing = kinds.Name name ∷ (arguments_kinds arguments ++ ending standing)
+printed_stmt_layer (Stmt-F.Release value token) standing =
     kinds.Word words.Release ∷ kinds.Sign signs.LeftParenthesis ∷ (expr_kinds value ++ kinds.Sign signs.RightParenthesis ∷ ending standing)
-stmt_step (Stmt-F.Check token) standing = kinds.Word words.Check ∷ kinds.Sign signs.LeftParenthesis ∷ kinds.Sign signs.RightParenthesis ∷ ending standing
-stmt_step (Stmt-F.Return value token) standing = kinds.Word words.Return ∷ (maybe_kinds value ++ kinds.Sign signs.Semicolon ∷ [])
-stmt_step (Stmt-F.Break token) standing = kinds.Word words.Break ∷ kinds.Sign signs.Semicolon ∷ []
-stmt_step (Stmt-F.Continue token) standing = kinds.Word words.Continue ∷ kinds.Sign signs.Semicolon ∷ []
-stmt_step (Stmt-F.If test body other token) standing =
+printed_stmt_layer (Stmt-F.Check token) standing = kinds.Word words.Check ∷ kinds.Sign signs.LeftParenthesis ∷ kinds.Sign signs.RightParenthesis ∷ ending standing
+printed_stmt_layer (Stmt-F.Return value token) standing = kinds.Word words.Return ∷ (maybe_kinds value ++ kinds.Sign signs.Semicolon ∷ [])
+printed_stmt_layer (Stmt-F.Break token) standing = kinds.Word words.Break ∷ kinds.Sign signs.Semicolon ∷ []
+printed_stmt_layer (Stmt-F.Continue token) standing = kinds.Word words.Continue ∷ kinds.Sign signs.Semicolon ∷ []
+printed_stmt_layer (Stmt-F.If test body other token) standing =
     kinds.Word words.If ∷ kinds.Sign signs.LeftParenthesis ∷ (expr_kinds test ++ kinds.Sign signs.RightParenthesis ∷ (body in_code ++ else_kinds other))
-stmt_step (Stmt-F.While test body token) standing =
+printed_stmt_layer (Stmt-F.While test body token) standing =
     kinds.Word words.While ∷ kinds.Sign signs.LeftParenthesis ∷ (expr_kinds test ++ kinds.Sign signs.RightParenthesis ∷ body in_code)
-stmt_step (Stmt-F.For first test step body token) standing =
+printed_stmt_layer (Stmt-F.For first test step body token) standing =
     kinds.Word words.For ∷ kinds.Sign signs.LeftParenthesis ∷ (head_kinds first
     ++ kinds.Sign signs.Semicolon ∷ (maybe_kinds test
     ++ kinds.Sign signs.Semicolon ∷ (head_kinds step
@@ -119,7 +119,7 @@ stmt_step (Stmt-F.For first test step body token) standing =
 
 -- the tokens of a statement
 abbrev pub stmt_kinds : Stmt → Standing → List Kind
-stmt_kinds = fold-Stmt (Standing → List Kind) stmt_step
+stmt_kinds = fold-Stmt (Standing → List Kind) printed_stmt_layer
 
 -- locals and statements between braces
 abbrev pub block_kinds : List Stmt → List Kind

@@ -1,5 +1,5 @@
 //! A law of printing.
-ghost use Rattle.c_printer.specs.Printing.{ReadIsPrintable};
+ghost use Rattle.c_printer.specs.ProgramPrinting.{ReadIsPrintable};
 
 /// The program of a text can be printed.
 pub fn read_is_printable()

@@ -3,7 +3,7 @@ ghost use Rattle.std.specs.Prelude.{◌≡◌, ◌++◌, IfOk, OnOk};
 ghost use Rattle.c_token.specs.declared.Kind.TheVariants as kinds;
 ghost use Rattle.c_printer.specs.PrintedTokens.{type_kind};
 ghost use Rattle.c_printer.specs.PrintedParts.{spaced_token, spaced_tokens, commas_before};
-ghost use Rattle.c_printer.specs.Printing.{program_text, IsPrintable, ReadsBack};
+ghost use Rattle.c_printer.specs.ProgramPrinting.{program_text, IsPrintable, ReadsBack};
 
 mod expressions;
 mod items;

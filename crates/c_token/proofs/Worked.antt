@@ -1,6 +1,6 @@
 -- The definition of tokens on worked texts.
-use Rattle.std.proofs.Common.{◌≡◌, ℕ, true, false, [], ◌∷◌, Ok, Err, refl}
-use Rattle.std.specs.Prelude.{codes}
+use Rattle.std.proofs.Common.{◌≡◌, ℕ, true, false, [], ◌∷◌, Some, None, Ok, Err, refl}
+use Rattle.std.specs.Prelude.{codes, map}
 use Rattle.std.specs.Fmt.{digits}
 use Rattle.c_token.specs.declared.words.Word.TheVariants as words
 use Rattle.c_token.specs.declared.signs.Sign.TheVariants as signs
@@ -9,7 +9,10 @@ use Rattle.c_token.specs.declared.kinds.Kind.{Kind}
 use Rattle.c_token.specs.declared.kinds.Kind.TheVariants as kinds
 use Rattle.c_token.specs.declared.kinds.Token.{Token}
 use Rattle.c_token.specs.PlainText.{plain_text, is_in_form, plain_tokens}
-use Rattle.c_token.specs.TextTokens.{tokens_of, tokens_from, front_at, front_then, put_before, token_of_len, judged, block_comment}
+use Rattle.c_token.specs.WordSpelling.{word_spelled}
+use Rattle.c_token.specs.SignSpelling.{sign_spelled}
+use Rattle.c_token.specs.TokenSpelling.{is_name, spelled}
+use Rattle.c_token.specs.TextTokens.{is_blank, tokens_of, tokens_from, front_at, front_then, put_before, token_of_len, judged, block_comment}
 
 abbrev placed : ℕ → Kind → Token
 placed at kind = record { kind = kind; at = at }
@@ -18,7 +21,7 @@ open_comment : tokens_of (codes "/* a") ≡ Err (OpenComment 0)
 unfolding tokens_of tokens_from front_at front_then put_before token_of_len judged block_comment
 open_comment = refl
 
--- the closing `*/` starts behind the two opening bytes
+-- the closing `*/` starts after the two opening bytes
 overlapping_comment : tokens_of (codes "a /*/") ≡ Err (OpenComment 2)
 unfolding tokens_of tokens_from front_at front_then put_before token_of_len judged block_comment
 overlapping_comment = refl
@@ -35,9 +38,9 @@ bare_prefix : tokens_of (codes " 0x") ≡ Err (BadNumber 1)
 unfolding tokens_of tokens_from front_at front_then put_before token_of_len judged block_comment
 bare_prefix = refl
 
-letter_behind : tokens_of (codes "0x1G") ≡ Err (BadNumber 0)
+letter_after : tokens_of (codes "0x1G") ≡ Err (BadNumber 0)
 unfolding tokens_of tokens_from front_at front_then put_before token_of_len judged block_comment
-letter_behind = refl
+letter_after = refl
 
 too_big : tokens_of (codes "4294967296") ≡ Err (BigNumber 0)
 unfolding tokens_of tokens_from front_at front_then put_before token_of_len judged block_comment
@@ -80,3 +83,45 @@ plain_places = refl
 out_of_form : (is_in_form (kinds.Name (codes "int")) ≡ false) × (is_in_form (kinds.Number 2147483648 false) ≡ false) × (is_in_form (kinds.Number 4294967296 true) ≡ false)
     × (is_in_form (kinds.Name (codes "abcdefghijklmnopqrstuvwxyzabcdef")) ≡ false) × (is_in_form (kinds.Name (codes "1a")) ≡ false)
 out_of_form = (refl, refl, refl, refl, refl)
+
+-- each word and each sign, by its spelling, and spellings of none
+word_table : map word_spelled (codes "int" ∷ codes "unsigned" ∷ codes "void" ∷ codes "const" ∷ codes "if" ∷ codes "else"
+    ∷ codes "while" ∷ codes "for" ∷ codes "return" ∷ codes "break" ∷ codes "continue" ∷ codes "release"
+    ∷ codes "input" ∷ codes "check" ∷ codes "__verified" ∷ codes "__private" ∷ codes "__shared" ∷ codes "__logged"
+    ∷ codes "__untrusted" ∷ [])
+    ≡ Some words.Int ∷ Some words.Unsigned ∷ Some words.Void ∷ Some words.Const ∷ Some words.If ∷ Some words.Else
+    ∷ Some words.While ∷ Some words.For ∷ Some words.Return ∷ Some words.Break ∷ Some words.Continue ∷ Some words.Release
+    ∷ Some words.Input ∷ Some words.Check ∷ Some words.Verified ∷ Some words.Private ∷ Some words.Shared ∷ Some words.Logged
+    ∷ Some words.Untrusted ∷ []
+word_table = refl
+
+no_words : map word_spelled (codes "Int" ∷ codes "i" ∷ codes "ints" ∷ codes "private" ∷ codes "goto" ∷ []) ≡ None ∷ None ∷ None ∷ None ∷ None ∷ []
+no_words = refl
+
+sign_table : map sign_spelled (codes "(" ∷ codes ")" ∷ codes "{" ∷ codes "}" ∷ codes "[" ∷ codes "]" ∷ codes ";" ∷ codes ","
+    ∷ codes "=" ∷ codes "+" ∷ codes "-" ∷ codes "*" ∷ codes "/" ∷ codes "%" ∷ codes "&" ∷ codes "|"
+    ∷ codes "^" ∷ codes "~" ∷ codes "!" ∷ codes "<" ∷ codes ">" ∷ codes "<=" ∷ codes ">=" ∷ codes "=="
+    ∷ codes "!=" ∷ codes "<<" ∷ codes ">>" ∷ codes "&&" ∷ codes "||" ∷ [])
+    ≡ Some signs.LeftParenthesis ∷ Some signs.RightParenthesis ∷ Some signs.LeftBrace ∷ Some signs.RightBrace ∷ Some signs.LeftBracket ∷ Some signs.RightBracket
+    ∷ Some signs.Semicolon ∷ Some signs.Comma ∷ Some signs.Assign ∷ Some signs.Plus ∷ Some signs.Minus ∷ Some signs.Star
+    ∷ Some signs.Slash ∷ Some signs.Percent ∷ Some signs.Ampersand ∷ Some signs.VerticalBar ∷ Some signs.Caret ∷ Some signs.Tilde
+    ∷ Some signs.Exclamation ∷ Some signs.LessThan ∷ Some signs.GreaterThan ∷ Some signs.LessOrEqual ∷ Some signs.GreaterOrEqual ∷ Some signs.EqualTo
+    ∷ Some signs.NotEqualTo ∷ Some signs.ShiftLeft ∷ Some signs.ShiftRight ∷ Some signs.LogicalAnd ∷ Some signs.LogicalOr ∷ []
+sign_table = refl
+
+no_signs : map sign_spelled (codes "" ∷ codes "++" ∷ codes "->" ∷ codes "." ∷ codes "<<=" ∷ codes "?" ∷ []) ≡ None ∷ None ∷ None ∷ None ∷ None ∷ None ∷ []
+no_signs = refl
+
+-- the longest name and a longer one, names of each class of bytes, and bytes that are no blanks
+longest_name : spelled (codes "abcdefghijklmnopqrstuvwxyzABCDE") ≡ Some (kinds.Name (codes "abcdefghijklmnopqrstuvwxyzABCDE"))
+longest_name = refl
+
+names : map is_name (codes "_" ∷ codes "_9" ∷ codes "Zz0" ∷ codes "9a" ∷ codes "a-b" ∷ codes "" ∷ []) ≡ true ∷ true ∷ true ∷ false ∷ false ∷ false ∷ []
+names = refl
+
+blanks : map is_blank (32 ∷ 9 ∷ 13 ∷ 10 ∷ 11 ∷ 12 ∷ 0 ∷ 160 ∷ []) ≡ true ∷ true ∷ true ∷ true ∷ false ∷ false ∷ false ∷ false ∷ []
+blanks = refl
+
+two_suffixes : tokens_of (codes "1uu") ≡ Err (BadNumber 0)
+unfolding tokens_of tokens_from front_at front_then put_before token_of_len judged block_comment
+two_suffixes = refl

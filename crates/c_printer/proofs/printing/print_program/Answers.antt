@@ -2,7 +2,7 @@ use Rattle.std.proofs.Common.{◌≡◌, ◌-◌, ◌++◌, length, take, sym, a
 use Rattle.std.specs.Vec.{vec_len}
 use Rattle.c_printer.specs.PrintedTokens.{items_kinds, program_kinds}
 use Rattle.c_printer.specs.PrintedParts.{spaced_tokens}
-use Rattle.c_printer.specs.Printing.{program_text, ReadsBack}
+use Rattle.c_printer.specs.ProgramPrinting.{program_text, ReadsBack}
 use Rattle.c_printer.proofs.PlainEnds.{without_last}
 use Rattle.c_printer.proofs.ReadsBack.{reads_back}
 use Rattle.c_printer.proofs.printing.print_program.Goals as goal

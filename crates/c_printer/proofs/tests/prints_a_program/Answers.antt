@@ -1,6 +1,6 @@
 use Rattle.std.proofs.Common.{subst, sym, ap, ◌∙◌}
 use Rattle.c_printer.specs.PrintedExample.{worked_program}
-use Rattle.c_printer.specs.Printing.{IsPrintable}
+use Rattle.c_printer.specs.ProgramPrinting.{IsPrintable}
 use Rattle.c_printer.proofs.Worked.{worked_is_printable}
 use Rattle.c_printer.proofs.tests.prints_a_program.Goals as goal
 
