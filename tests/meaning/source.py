@@ -9,7 +9,7 @@ TOKEN = re.compile(rf"{NUMBER}|[A-Za-z_][A-Za-z0-9_]*|{SIGN}")
 COMPARED = ["<", "<=", ">", ">="]
 LEVELS = [["||"], ["&&"], ["|"], ["^"], ["&"], ["==", "!="], COMPARED, ["<<", ">>"], ["+", "-"], ["*", "/", "%"]]
 CLASSES = ("__verified", "__private", "__shared", "__logged")
-END = ""  # stands behind the last token
+END = ""  # stands after the last token
 
 
 def tokens(text):
@@ -96,15 +96,14 @@ class Reader:
             for word in ("(", "void", ")", ";"):
                 self.take(word)
             return Node(kind="untrusted", name=name, token=token)
-        if self.next in CLASSES:
-            self.take()
+        storage = self.tokens[self.take()] if self.next in CLASSES else None
         unsigned = not self.took("void") and self.is_unsigned()
         name, token = self.name()
         if self.next == "(":
-            return self.function(name, token, unsigned)
+            return self.function(name, token, unsigned, storage == "__private")
         length = self.length()
         self.take(";")
-        return Node(kind="object", name=name, token=token, unsigned=unsigned, length=length)
+        return Node(kind="object", name=name, token=token, unsigned=unsigned, length=length, storage=storage)
 
     def length(self):
         """Takes the length of an array, if there is one."""
@@ -128,7 +127,7 @@ class Reader:
         value, _ = self.number()
         return (-value if negative else value) % 2**32
 
-    def function(self, name, token, unsigned):
+    def function(self, name, token, unsigned, private):
         self.take("(")
         if self.took("void"):
             self.take(")")
@@ -136,7 +135,7 @@ class Reader:
         else:
             parameters = self.listed(self.parameter, ")")
         body = self.block()
-        return Node(kind="function", name=name, token=token, unsigned=unsigned, parameters=parameters, body=body)
+        return Node(kind="function", name=name, token=token, unsigned=unsigned, parameters=parameters, body=body, private=private)
 
     def parameter(self):
         unsigned = self.is_unsigned()

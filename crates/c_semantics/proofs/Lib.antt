@@ -1,4 +1,4 @@
 pub mod LawProofs
+mod PinnedRuns
 pub mod Relating
 pub mod ViewForms
-mod Worked

@@ -1,5 +1,5 @@
 -- Two runs of one program side by side. What each single thing that a run does keeps of two states, the whole run keeps.
-use Rattle.std.proofs.Common.{◌≡◌, ◌≢◌, ℕ, zero, suc, ◌+◌, ◌<◌, ◌≤◌, ◌⊎◌, inl, inr, ◌==◌, Bool, true, false, not, List, [], ◌∷◌, Option, Some, None, arith, refl, sym, ap, subst, nat_lt}
+use Rattle.std.proofs.Common.{◌≡◌, ◌≢◌, ℕ, zero, suc, ◌+◌, ◌<◌, ◌≤◌, ◌⊎◌, inl, inr, ◌==◌, Bool, true, false, List, [], ◌∷◌, Option, Some, None, arith, refl, sym, ap, subst, nat_lt}
 use Rattle.execution.specs.Traffic.{is_same_element, input_word, after_input, loose_word, after_loose, after_check, after_suspension}
 use Rattle.regions.specs.declared.rights.Class.{Class}
 use Rattle.aegis_num.specs.declared.operators.BinaryOp.{BinaryOp}

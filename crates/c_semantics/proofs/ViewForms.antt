@@ -12,7 +12,7 @@ use Rattle.c_semantics.specs.declared.tree.Stmt.TheOpen.{Stmt-F}
 use Rattle.c_semantics.specs.declared.tree.Stmt.TheFolds.{fold-roll-Stmt}
 use Rattle.c_semantics.specs.declared.tree.Variable.{Variable}
 use Rattle.c_semantics.specs.ResolvedTree as Tree
-use Rattle.c_semantics.specs.ResolvedViews.{arguments_of, expr_step, expr_of, exprs_of, part_of, in_turn, stmt_or_nothing, stmt_step, stmt_of, stmts_of, branch_of}
+use Rattle.c_semantics.specs.ResolvedViews.{arguments_of, expr_step, expr_of, exprs_of, part_of, in_turn, stmt_step, stmt_of, stmts_of, branch_of}
 
 -- ---- lists
 

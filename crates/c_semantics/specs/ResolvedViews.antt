@@ -1,12 +1,11 @@
 -- Promise: the programs that the code keeps, as those of the definitions.
-use Rattle.std.specs.Prelude.{ℕ, List, [], ◌∷◌, Option, Some, None}
+use Rattle.std.specs.Prelude.{List, [], ◌∷◌, Option, Some, None}
 use Rattle.c_semantics.specs.declared.tree.Expr.{Expr}
 use Rattle.c_semantics.specs.declared.tree.Expr.TheOpen.{Expr-F}
 use Rattle.c_semantics.specs.declared.tree.Expr.TheFolds.{fold-Expr}
 use Rattle.c_semantics.specs.declared.tree.Stmt.{Stmt}
 use Rattle.c_semantics.specs.declared.tree.Stmt.TheOpen.{Stmt-F}
 use Rattle.c_semantics.specs.declared.tree.Stmt.TheFolds.{fold-Stmt}
-use Rattle.c_semantics.specs.declared.tree.Variable.{Variable}
 use Rattle.c_semantics.specs.declared.tree.Function.{Function}
 use Rattle.c_semantics.specs.declared.tree.Object.{Object}
 use Rattle.c_semantics.specs.declared.tree.Program.{Program}

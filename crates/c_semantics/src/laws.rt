@@ -9,7 +9,7 @@ ghost use Rattle.c_semantics.specs.MeaningLaws.{
   TurnsAreUsed,
 };
 
-/// Where a run ends with so many loop turns, it is the same with more.
+/// Where a run ends with so many loop turns, more of them change nothing.
 pub fn more_turns_change_nothing()
     ensures same { MoreTurns }
 {}
@@ -26,7 +26,7 @@ pub fn turns_are_used()
     ensures used { TurnsAreUsed }
 {}
 
-/// A statement takes nothing back: bytes and writes come behind those before, and no count falls.
+/// A statement takes nothing back: bytes and writes come after those before, and no count falls.
 pub fn statements_only_add()
     ensures adds { OnlyAdds }
 {}
@@ -36,7 +36,7 @@ pub fn noting_changes_nothing_else()
     ensures same { NotingChangesNothingElse }
 {}
 
-/// With no loose class no loose word is read, and the meaning is the same for any.
+/// With no loose class no loose word is read, and any loose words give one meaning.
 pub fn no_loose_class_reads_no_entry()
     ensures unread { ReadsNoEntry }
 {}

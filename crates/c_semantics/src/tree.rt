@@ -23,7 +23,7 @@ pub enum Expr {
     },
     /// A variable that is no array.
     Scalar {
-        /// It.
+        /// The variable.
         variable: Variable,
     },
     /// An element of an array.
@@ -61,21 +61,21 @@ pub enum Expr {
         op: BinaryOp,
         /// The operand before it.
         left: Boxed<Expr>,
-        /// The operand behind it.
+        /// The operand after it.
         right: Boxed<Expr>,
     },
     /// `left && right`
     Both {
         /// The operand before the sign.
         left: Boxed<Expr>,
-        /// The operand behind it.
+        /// The operand after it.
         right: Boxed<Expr>,
     },
     /// `left || right`
     Either {
         /// The operand before the sign.
         left: Boxed<Expr>,
-        /// The operand behind it.
+        /// The operand after it.
         right: Boxed<Expr>,
     },
 }
@@ -85,9 +85,9 @@ pub enum Expr {
 pub enum Stmt {
     /// Nothing is done.
     Empty,
-    /// Statements one behind the other.
+    /// Statements one after the other.
     Block {
-        /// They.
+        /// The statements, in order.
         body: Items<Stmt>,
     },
     /// The declaration of a local, which gets its value, or zero.
@@ -158,13 +158,13 @@ pub enum Stmt {
         /// A turn.
         body: Boxed<Stmt>,
     },
-    /// A loop with a statement before it and a step behind each turn.
+    /// A loop with a statement before it and a step after each turn.
     For {
         /// What is done before it, if anything.
         first: Option<Boxed<Stmt>>,
         /// The condition of each turn, if one stands there.
         test: Option<Expr>,
-        /// What is done behind each turn, if anything.
+        /// What is done after each turn, if anything.
         step: Option<Boxed<Stmt>>,
         /// A turn.
         body: Boxed<Stmt>,
