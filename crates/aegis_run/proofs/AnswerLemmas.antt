@@ -2,7 +2,7 @@
 use Rattle.std.proofs.Common.{◌≡◌, ◌≢◌, inl, inr, ℕ, List, [], length, unwrap_or, Option, None, Some, refl, sym, ◌∙◌, ap, subst, arith}
 use Rattle.aegis_edge.specs.Folder.{Files, content_of}
 use Rattle.c_grammar.specs.declared.item.Program.{Program}
-use Rattle.c_meaning.specs.Resolving.{program_in}
+use Rattle.c_resolver.specs.Resolving.{program_in}
 use Rattle.c_semantics.specs.Meaning.{Meaning, mean_alone}
 use Rattle.aegis_run.specs.declared.ends.File.{File}
 use Rattle.aegis_run.specs.declared.ends.File.TheVariants.{Source, Script, Input}

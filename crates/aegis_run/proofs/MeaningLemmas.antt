@@ -17,13 +17,13 @@ use Rattle.c_grammar.specs.declared.item.Parameter.{Parameter}
 use Rattle.c_grammar.specs.declared.item.Item.{Item}
 use Rattle.c_grammar.specs.declared.item.Item.TheVariants as item
 use Rattle.c_grammar.specs.declared.item.Program.{Program}
-use Rattle.c_types.specs.declared.declaration.Declaration.{Declaration}
-use Rattle.c_types.specs.Sites.{declarations_of}
+use Rattle.c_scopes.specs.declared.declaration.Declaration.{Declaration}
+use Rattle.c_scopes.specs.Declarations.{declarations_of}
 use Rattle.c_semantics.specs.ResolvedTree as Tree
 use Rattle.c_semantics.specs.States.{Setting, State, Ended, Outcome, GoesOn, then, tick, releasing}
 use Rattle.c_semantics.specs.Meaning.{Calls, Flow, Returned, result_of, Meaning, meaning, meaning_of, first_state, no_calls, mean_alone}
 use Rattle.regions.specs.LooseClasses.{nothing_loose}
-use Rattle.c_meaning.specs.Resolving.{Resolved, expr_step, typed, ResolvedStmt, stmt_step, resolved, body_in, number_of, main_token, program_in}
+use Rattle.c_resolver.specs.Resolving.{Resolved, expr_step, typed, ResolvedStmt, stmt_step, resolved, body_in, number_of, main_token, program_in}
 use Rattle.aegis_run.specs.Literals.{number_in, released_by, returns_literal, body_literals, is_int, is_nothing, is_main, item_literals, items_literals, literals_of}
 use Rattle.aegis_run.proofs.LengthLemmas.{parts, where_true}
 

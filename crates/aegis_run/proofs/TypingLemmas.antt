@@ -5,7 +5,7 @@ use Rattle.c_types.specs.declared.error.TypeError.{TypeError}
 use Rattle.c_types.specs.declared.error.TypeError.TheVariants as type
 use Rattle.c_types.specs.declared.site.Rule.{Rule}
 use Rattle.c_types.specs.declared.site.Rule.TheVariants as rule
-use Rattle.c_types.specs.Rules.{IsFirst, rank}
+use Rattle.c_types.specs.TypingRules.{IsFirst, rank}
 use Rattle.c_types.specs.Checked.{IsTyped, IsRefused, KeepsRules, error_at, has_main}
 
 -- a type error is the first violation, or there is no `main`

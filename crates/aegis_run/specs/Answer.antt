@@ -6,7 +6,7 @@ use Rattle.aegis_edge.specs.Folder.{Files, HoldsWhole, content_of}
 use Rattle.aegis_edge.specs.Sink.{Appends, AppendsFront}
 use Rattle.c_evaluator.specs.MachineStates.{end_of}
 use Rattle.c_grammar.specs.declared.item.Program.{Program}
-use Rattle.c_meaning.specs.Resolving.{program_in}
+use Rattle.c_resolver.specs.Resolving.{program_in}
 use Rattle.c_semantics.specs.Meaning.{Meaning, mean_alone}
 use Rattle.c_semantics.specs.States as outcome
 use Rattle.c_reader.specs.declared.error.SyntaxError.TheVariants as syntax

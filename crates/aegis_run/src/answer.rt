@@ -2,7 +2,7 @@
 ghost use Rattle.std.specs.Prelude.{◌≡◌, ◌≢◌, ◌+◌, ◌*◌, ◌^◌, ◌<◌, ◌≤◌, None, Some, length, IfOk, OnErr};
 ghost use Rattle.std.specs.List.{AllByRecursion};
 ghost use Rattle.aegis_edge.specs.Faults.{Rose};
-ghost use Rattle.c_meaning.specs.Resolving.{program_in};
+ghost use Rattle.c_resolver.specs.Resolving.{program_in};
 ghost use Rattle.c_semantics.specs.Meaning.{mean_alone};
 ghost use Rattle.aegis_run.specs.Words.{command_in};
 ghost use Rattle.aegis_run.specs.Words as asks;

@@ -1,6 +1,3 @@
-pub mod Lists
-pub mod Rows
-pub mod Programs
 pub mod Uses
 pub mod MentionedExpressions
 pub mod MentionedStatements

@@ -3,22 +3,22 @@ use Rattle.std.proofs.Common.{◌≡◌, ◌∙◌, ap, subst, ℕ, ◌||◌, �
 use Rattle.std.specs.List.{list_any}
 use Rattle.std.specs.Str.{bytes_eq}
 use Rattle.std.proofs.lemmas.Slice.Eq.{bytes_eq-Decides}
-use Rattle.arrayvec.specs.ArrayString.{ArrayString}
 use Rattle.c_grammar.specs.declared.item.Item.{Item}
 use Rattle.c_grammar.specs.declared.item.Item.TheVariants as item
-use Rattle.c_types.specs.declared.declaration.Binding.{Binding}
-use Rattle.c_types.specs.declared.declaration.Declaration.{Declaration}
+use Rattle.c_scopes.specs.declared.declaration.Binding.{Binding}
+use Rattle.c_scopes.specs.declared.declaration.Declaration.{Declaration}
 use Rattle.c_types.specs.declared.site.Rule.{Rule}
 use Rattle.c_types.specs.declared.site.Rule.TheVariants.{Twice}
 use Rattle.c_types.specs.declared.site.Site.TheVariants as site
-use Rattle.c_types.specs.Scopes.{declares, latest, or_else, same_name}
-use Rattle.c_types.specs.Sites.{declaration_of, declarations_of, item_sites, name_of, token_of}
-use Rattle.c_types.specs.Rules.{Breaks}
-use Rattle.c_types.specs.Rules.Breaks.{twice_global}
+use Rattle.c_scopes.specs.Scopes.{declares, latest, or_else, bytes_eq}
+use Rattle.c_scopes.specs.Declarations.{declaration_of, declarations_of, name_of, token_of}
+use Rattle.c_types.specs.Sites.{item_sites}
+use Rattle.c_types.specs.TypingRules.{Breaks}
+use Rattle.c_types.specs.TypingRules.Breaks.{twice_global}
 use Rattle.c_types.specs.Checked.{is_int, is_main}
-use Rattle.c_meaning.specs.Resolving.{function_tokens, main_name, main_token, number_of}
+use Rattle.c_resolver.specs.Resolving.{function_tokens, main_token, function_number}
 use Rattle.c_meaning.specs.Mentions.{items_sites}
-use Rattle.c_meaning.specs.Numbers.{MainIsFound}
+use Rattle.c_meaning.specs.FunctionNumbers.{MainIsFound}
 use Rattle.c_meaning.proofs.MentionedExpressions.{Clean, clean-front, clean-back}
 use Rattle.c_meaning.proofs.MentionedPrograms.{declarations-snoc, items-clean}
 
@@ -62,51 +62,51 @@ more-by_head : (a b c : Bool) → (b ≡ true → c ≡ true) → (a || b) ≡ t
 more-by_head true b c later e = refl
 more-by_head false b c later e = later e
 
-declares-more : (known more : List Declaration) (name : ArrayString) → declares known name ≡ true → declares (known ++ more) name ≡ true
+declares-more : (known more : List Declaration) (name : List ℕ) → declares known name ≡ true → declares (known ++ more) name ≡ true
 declares-more [] more name held = absurd (cc)
 declares-more (d ∷ known) more name held =
-    more-by_head (same_name d.name name) (declares known name) (declares (known ++ more) name) (λ e. declares-more known more name e) held
+    more-by_head (bytes_eq d.name name) (declares known name) (declares (known ++ more) name) (λ e. declares-more known more name e) held
 
-declares-last : (known : List Declaration) (d : Declaration) (name : ArrayString) → same_name d.name name ≡ true → declares (known ++ d ∷ []) name ≡ true
-declares-last [] d name same = or_left (same_name d.name name) false same
-declares-last (k ∷ known) d name same = or_right (same_name k.name name) (declares (known ++ d ∷ []) name) (declares-last known d name same)
+declares-last : (known : List Declaration) (d : Declaration) (name : List ℕ) → bytes_eq d.name name ≡ true → declares (known ++ d ∷ []) name ≡ true
+declares-last [] d name same = or_left (bytes_eq d.name name) false same
+declares-last (k ∷ known) d name same = or_right (bytes_eq k.name name) (declares (known ++ d ∷ []) name) (declares-last known d name same)
 
-declares-by : (known : List Declaration) (a b : ArrayString) → a.bytes ≡ b.bytes → declares known a ≡ declares known b
-declares-by known a b same = ap (λ bytes. list_any (λ d. bytes_eq d.name.bytes bytes) known) same
+declares-by : (known : List Declaration) (a b : List ℕ) → a.bytes ≡ b.bytes → declares known a ≡ declares known b
+declares-by known a b same = ap (λ bytes. list_any (λ d. bytes_eq d.name bytes) known) same
 
-not-main : (known : List Declaration) (name : ArrayString) → declares known main_name ≡ true → declares known name ≡ false → same_name name main_name ≡ false
+not-main : (known : List Declaration) (name : List ℕ) → declares known (codes "main") ≡ true → declares known name ≡ false → bytes_eq name (codes "main") ≡ false
 not-main known name held free =
-    if_not_true (same_name name main_name) (λ same. let e = declares-by known name main_name ((bytes_eq-Decides name.bytes main_name.bytes).0 same) in absurd (cc))
+    if_not_true (bytes_eq name (codes "main")) (λ same. let e = declares-by known name (codes "main") ((bytes_eq-Decides name (codes "main")).0 same) in absurd (cc))
 
-none-later : (known : List Declaration) (rest : List Item) → declares known main_name ≡ true → Distinct known rest → latest (declarations_of rest) main_name ≡ None
+none-later : (known : List Declaration) (rest : List Item) → declares known (codes "main") ≡ true → Distinct known rest → latest (declarations_of rest) (codes "main") ≡ None
 none-later known [] held distinct = refl
 none-later known (y ∷ rest) held distinct =
-    ap (λ o. or_else o (cond (same_name (name_of y) main_name) (Some (declaration_of y).binding) None))
-    (none-later (known ++ declaration_of y ∷ []) rest (declares-more known (declaration_of y ∷ []) main_name held) distinct.1)
+    ap (λ o. or_else o (cond (bytes_eq (name_of y) (codes "main")) (Some (declaration_of y).binding) None))
+    (none-later (known ++ declaration_of y ∷ []) rest (declares-more known (declaration_of y ∷ []) (codes "main") held) distinct.1)
     ∙ ap (λ b. cond b (Some (declaration_of y).binding) None) (not-main known (name_of y) held distinct.0)
 
-found : (known : List Declaration) (before behind : List Item) (x : Item) → same_name (name_of x) main_name ≡ true → Distinct known (before ++ x ∷ behind) →
-    latest (declarations_of (before ++ x ∷ behind)) main_name ≡ Some (declaration_of x).binding
-found known [] behind x same distinct =
-    ap (λ o. or_else o (cond (same_name (name_of x) main_name) (Some (declaration_of x).binding) None))
-    (none-later (known ++ declaration_of x ∷ []) behind (declares-last known (declaration_of x) main_name same) distinct.1)
+found : (known : List Declaration) (before after : List Item) (x : Item) → bytes_eq (name_of x) (codes "main") ≡ true → Distinct known (before ++ x ∷ after) →
+    latest (declarations_of (before ++ x ∷ after)) (codes "main") ≡ Some (declaration_of x).binding
+found known [] after x same distinct =
+    ap (λ o. or_else o (cond (bytes_eq (name_of x) (codes "main")) (Some (declaration_of x).binding) None))
+    (none-later (known ++ declaration_of x ∷ []) after (declares-last known (declaration_of x) (codes "main") same) distinct.1)
     ∙ ap (λ b. cond b (Some (declaration_of x).binding) None) same
-found known (y ∷ before) behind x same distinct =
-    ap (λ o. or_else o (cond (same_name (name_of y) main_name) (Some (declaration_of y).binding) None))
-    (found (known ++ declaration_of y ∷ []) before behind x same distinct.1)
+found known (y ∷ before) after x same distinct =
+    ap (λ o. or_else o (cond (bytes_eq (name_of y) (codes "main")) (Some (declaration_of y).binding) None))
+    (found (known ++ declaration_of y ∷ []) before after x same distinct.1)
 
-main_named : (x : Item) → is_main x ≡ true → same_name (name_of x) main_name ≡ true
-main_named (item.Object storage unsigned name length' token) is = absurd (cc)
-main_named (item.Constant unsigned name length' values braces token) is = absurd (cc)
-main_named (item.Untrusted name token) is = absurd (cc)
-main_named (item.Function private result name parameters body token) is = and_first (bytes_eq name.bytes (codes "main")) (is_int result) (length parameters == 0) (not private) is
+(codes "main")d : (x : Item) → is_main x ≡ true → bytes_eq (name_of x) (codes "main") ≡ true
+(codes "main")d (item.Object storage unsigned name length' token) is = absurd (cc)
+(codes "main")d (item.Constant unsigned name length' values braces token) is = absurd (cc)
+(codes "main")d (item.Untrusted name token) is = absurd (cc)
+(codes "main")d (item.Function private result name parameters body token) is = and_first (bytes_eq name (codes "main")) (is_int result) (length parameters == 0) (not private) is
 
-token-found : (declared : List Declaration) (b : Binding) → latest declared main_name ≡ Some b → main_token declared ≡ b.token
+token-found : (declared : List Declaration) (b : Binding) → latest declared (codes "main") ≡ Some b → main_token declared ≡ b.token
 token-found declared b e = rw e refl
 
 pub main_is_found : MainIsFound
-main_is_found p keeps before behind x all is =
-    let distinct : Distinct [] (before ++ x ∷ behind) = subst (Distinct []) all (items-distinct [] p.items (items-clean p keeps [] p.items refl)) in
-    let e : latest (declarations_of p.items) main_name ≡ Some (declaration_of x).binding =
-    ap (λ items. latest (declarations_of items) main_name) all ∙ found [] before behind x (main_named x is) distinct in
-    ap (number_of (function_tokens p.items)) (token-found (declarations_of p.items) (declaration_of x).binding e)
+main_is_found p keeps before after x all is =
+    let distinct : Distinct [] (before ++ x ∷ after) = subst (Distinct []) all (items-distinct [] p.items (items-clean p keeps [] p.items refl)) in
+    let e : latest (declarations_of p.items) (codes "main") ≡ Some (declaration_of x).binding =
+    ap (λ items. latest (declarations_of items) (codes "main")) all ∙ found [] before after x ((codes "main")d x is) distinct in
+    ap (function_number (function_tokens p.items)) (token-found (declarations_of p.items) (declaration_of x).binding e)

@@ -1,6 +1,5 @@
 -- What a small program mentions.
 use Rattle.std.proofs.Common.{◌≡◌, ◌∙◌, ap, sym, ℕ, ◌-◌, Bool, true, false, List, [], ◌∷◌, ◌++◌, append-nil, codes, Option, is_some, Some, None, refl}
-use Rattle.arrayvec.specs.ArrayString.{ArrayString}
 use Rattle.regions.specs.declared.rights.Class.{Class}
 use Rattle.regions.specs.declared.rights.Class.TheVariants as class
 use Rattle.c_token.specs.declared.signs.Sign.{Sign}
@@ -17,21 +16,22 @@ use Rattle.c_grammar.specs.declared.item.Kind3.TheVariants.{Int}
 use Rattle.c_grammar.specs.declared.item.Storage.TheVariants as storage
 use Rattle.c_grammar.specs.declared.item.Item.TheVariants as item
 use Rattle.c_grammar.specs.declared.item.Program.{Program}
-use Rattle.c_types.specs.declared.declaration.Declaration.{Declaration}
+use Rattle.c_scopes.specs.declared.declaration.Declaration.{Declaration}
 use Rattle.c_types.specs.declared.site.Home.{Home}
 use Rattle.c_types.specs.declared.site.How.TheVariants.{Value, Element, CallValue}
 use Rattle.c_types.specs.declared.site.Site.TheVariants as site
-use Rattle.c_types.specs.Scopes.{is_again, latest}
+use Rattle.c_scopes.specs.Scopes.{is_again, latest}
 use Rattle.c_types.specs.Sites
-use Rattle.c_types.specs.Sites.{ExprSites, StmtSites, assign, behind, expr_sites, inside, local as local_of, looped, part_sites, stmt_sites, use_of}
+use Rattle.c_scopes.specs.Declarations.{local as local_of}
+use Rattle.c_types.specs.Sites.{ExprSites, StmtSites, assign, place_after, expr_sites, inside, looped, part_sites, stmt_sites, use_of}
 use Rattle.c_semantics.specs.declared.tree.Variable.{Variable}
 use Rattle.c_semantics.specs.ResolvedTree as Tree
-use Rattle.c_meaning.specs.Resolving
-use Rattle.c_meaning.specs.Resolving.{Resolved, ResolvedStmt, assigned, binary_of, called, function_tokens, functions_in, indexed, named, part_in, program_in, resolved, typed, variable_of}
+use Rattle.c_resolver.specs.Resolving
+use Rattle.c_resolver.specs.Resolving.{Resolved, ResolvedStmt, assigned, binary_of, call_value, function_tokens, functions_in, indexed, named, part_in, plain_program, resolved, typed, variable_of}
 use Rattle.c_meaning.specs.Mentions.{Mention, Declared, Scalar, Array, Called, at_sites, in_functions, mentions, program_sites}
-use Rattle.c_meaning.proofs.Rows.{resolved-For}
+use Rattle.c_resolver.proofs.Rows.{resolved-For}
 
-abbrev name : List ℕ → ArrayString
+abbrev name : List ℕ → List ℕ
 name bytes = record { bytes = bytes; spare = [] }
 
 abbrev number : ℕ → ℕ → Expr
@@ -78,7 +78,7 @@ local token = record { token = token; class = None }
 abbrev global : ℕ → Variable
 global token = record { token = token; class = Some class.Verified }
 
--- The local hides the global behind its declaration, and the parameter hides it in `f`.
+-- The local hides the global after its declaration, and the parameter hides it in `f`.
 abbrev small_mentions : List Mention
 small_mentions =
     Declared 13
@@ -106,27 +106,27 @@ sites-Number : (value : ℕ) (unsigned : Bool) (token : ℕ) (known : List Decla
 sites-Number value unsigned token known home =
     ap (λ e'. expr_sites e' known home) (sym (expr.rolls-Number value unsigned token)) ∙ ap (λ r. r known home) (fold-roll-Expr ExprSites Sites.expr_step (Expr-F.Number value unsigned token))
 
-typed-Name : (fs : List ℕ) (text : ArrayString) (token : ℕ) (known : List Declaration) → typed fs (expr.Name text token) known ≡ named (latest known text)
+typed-Name : (fs : List ℕ) (text : List ℕ) (token : ℕ) (known : List Declaration) → typed fs (expr.Name text token) known ≡ named (latest known text)
 typed-Name fs text token known =
     ap (λ e'. typed fs e' known) (sym (expr.rolls-Name text token)) ∙ ap (λ r. r known) (fold-roll-Expr Resolved (Resolving.expr_step fs) (Expr-F.Name text token))
 
-sites-Name : (text : ArrayString) (token : ℕ) (known : List Declaration) (home : Home) → expr_sites (expr.Name text token) known home ≡ use_of Value known home text token ∷ []
+sites-Name : (text : List ℕ) (token : ℕ) (known : List Declaration) (home : Home) → expr_sites (expr.Name text token) known home ≡ use_of Value known home text token ∷ []
 sites-Name text token known home =
     ap (λ e'. expr_sites e' known home) (sym (expr.rolls-Name text token)) ∙ ap (λ r. r known home) (fold-roll-Expr ExprSites Sites.expr_step (Expr-F.Name text token))
 
-typed-Index : (fs : List ℕ) (text : ArrayString) (index : Expr) (token : ℕ) (known : List Declaration) → typed fs (expr.Index text index token) known ≡ indexed (latest known text) token (typed fs index known).expr
+typed-Index : (fs : List ℕ) (text : List ℕ) (index : Expr) (token : ℕ) (known : List Declaration) → typed fs (expr.Index text index token) known ≡ indexed (latest known text) token (typed fs index known).expr
 typed-Index fs text index token known =
     ap (λ e'. typed fs e' known) (sym (expr.rolls-Index text index token)) ∙ ap (λ r. r known) (fold-roll-Expr Resolved (Resolving.expr_step fs) (Expr-F.Index text index token))
 
-sites-Index : (text : ArrayString) (index : Expr) (token : ℕ) (known : List Declaration) (home : Home) → expr_sites (expr.Index text index token) known home ≡ use_of Element known home text (token - 1) ∷ expr_sites index known home
+sites-Index : (text : List ℕ) (index : Expr) (token : ℕ) (known : List Declaration) (home : Home) → expr_sites (expr.Index text index token) known home ≡ use_of Element known home text (token - 1) ∷ expr_sites index known home
 sites-Index text index token known home =
     ap (λ e'. expr_sites e' known home) (sym (expr.rolls-Index text index token)) ∙ ap (λ r. r known home) (fold-roll-Expr ExprSites Sites.expr_step (Expr-F.Index text index token))
 
-typed-Call : (fs : List ℕ) (text : ArrayString) (e : Expr) (token : ℕ) (known : List Declaration) → typed fs (expr.Call text (e ∷ []) token) known ≡ called fs (latest known text) (Tree.Argument (typed fs e known).expr Tree.NoArguments)
+typed-Call : (fs : List ℕ) (text : List ℕ) (e : Expr) (token : ℕ) (known : List Declaration) → typed fs (expr.Call text (e ∷ []) token) known ≡ call_value fs (latest known text) (Tree.Argument (typed fs e known).expr Tree.NoArguments)
 typed-Call fs text e token known =
     ap (λ e'. typed fs e' known) (sym (expr.rolls-Call text (e ∷ []) token)) ∙ ap (λ r. r known) (fold-roll-Expr Resolved (Resolving.expr_step fs) (Expr-F.Call text (e ∷ []) token))
 
-sites-Call : (text : ArrayString) (e : Expr) (token : ℕ) (known : List Declaration) (home : Home) → expr_sites (expr.Call text (e ∷ []) token) known home ≡ use_of (CallValue 1) known home text token ∷ expr_sites e known home
+sites-Call : (text : List ℕ) (e : Expr) (token : ℕ) (known : List Declaration) (home : Home) → expr_sites (expr.Call text (e ∷ []) token) known home ≡ use_of (CallValue 1) known home text token ∷ expr_sites e known home
 sites-Call text e token known home =
     ap (λ e'. expr_sites e' known home) (sym (expr.rolls-Call text (e ∷ []) token)) ∙ ap (λ r. r known home) (fold-roll-Expr ExprSites Sites.expr_step (Expr-F.Call text (e ∷ []) token))
     ∙ ap (λ later. use_of (CallValue 1) known home text token ∷ later) (append-nil (expr_sites e known home))
@@ -139,22 +139,22 @@ sites-Binary : (op : Sign) (left right : Expr) (token : ℕ) (known : List Decla
 sites-Binary op left right token known home =
     ap (λ e'. expr_sites e' known home) (sym (expr.rolls-Binary op left right token)) ∙ ap (λ r. r known home) (fold-roll-Expr ExprSites Sites.expr_step (Expr-F.Binary op left right token))
 
-at-Local : (fs : List ℕ) (unsigned : Bool) (text : ArrayString) (value : Option Expr) (token : ℕ) (known : List Declaration) → (resolved fs (stmt.Local unsigned text value token)).at known ≡ Tree.Local (variable_of token None) (part_in fs value known)
+at-Local : (fs : List ℕ) (unsigned : Bool) (text : List ℕ) (value : Option Expr) (token : ℕ) (known : List Declaration) → (resolved fs (stmt.Local unsigned text value token)).at known ≡ Tree.Local (variable_of token None) (part_in fs value known)
 at-Local fs unsigned text value token known = ap (λ s. s.at known) (ap (resolved fs) (sym (stmt.rolls-Local unsigned text value token)) ∙ fold-roll-Stmt ResolvedStmt (Resolving.stmt_step fs) (Stmt-F.Local unsigned text value token))
 
-declared-Local : (fs : List ℕ) (unsigned : Bool) (text : ArrayString) (value : Option Expr) (token : ℕ) → (resolved fs (stmt.Local unsigned text value token)).declared ≡ local_of unsigned text token ∷ []
+declared-Local : (fs : List ℕ) (unsigned : Bool) (text : List ℕ) (value : Option Expr) (token : ℕ) → (resolved fs (stmt.Local unsigned text value token)).declared ≡ local_of unsigned text token ∷ []
 declared-Local fs unsigned text value token = ap (λ s. s.declared) (ap (resolved fs) (sym (stmt.rolls-Local unsigned text value token)) ∙ fold-roll-Stmt ResolvedStmt (Resolving.stmt_step fs) (Stmt-F.Local unsigned text value token))
 
-sites-Local : (unsigned : Bool) (text : ArrayString) (value : Option Expr) (token : ℕ) → stmt_sites (stmt.Local unsigned text value token) ≡ record { declared = local_of unsigned text token ∷ []; sites = λ place. site.Local (is_again place.scope text) token ∷ part_sites value place.scope.known place.home }
+sites-Local : (unsigned : Bool) (text : List ℕ) (value : Option Expr) (token : ℕ) → stmt_sites (stmt.Local unsigned text value token) ≡ record { declared = local_of unsigned text token ∷ []; sites = λ place. site.Local (is_again place.scope text) token ∷ part_sites value place.scope.known place.home }
 sites-Local unsigned text value token = ap stmt_sites (sym (stmt.rolls-Local unsigned text value token)) ∙ fold-roll-Stmt StmtSites Sites.stmt_step (Stmt-F.Local unsigned text value token)
 
-at-Assign : (fs : List ℕ) (text : ArrayString) (index : Option Expr) (value : Expr) (token : ℕ) (known : List Declaration) → (resolved fs (stmt.Assign text index value token)).at known ≡ assigned (latest known text) token (part_in fs index known) (typed fs value known).expr
+at-Assign : (fs : List ℕ) (text : List ℕ) (index : Option Expr) (value : Expr) (token : ℕ) (known : List Declaration) → (resolved fs (stmt.Assign text index value token)).at known ≡ assigned (latest known text) token (part_in fs index known) (typed fs value known).expr
 at-Assign fs text index value token known = ap (λ s. s.at known) (ap (resolved fs) (sym (stmt.rolls-Assign text index value token)) ∙ fold-roll-Stmt ResolvedStmt (Resolving.stmt_step fs) (Stmt-F.Assign text index value token))
 
-declared-Assign : (fs : List ℕ) (text : ArrayString) (index : Option Expr) (value : Expr) (token : ℕ) → (resolved fs (stmt.Assign text index value token)).declared ≡ []
+declared-Assign : (fs : List ℕ) (text : List ℕ) (index : Option Expr) (value : Expr) (token : ℕ) → (resolved fs (stmt.Assign text index value token)).declared ≡ []
 declared-Assign fs text index value token = ap (λ s. s.declared) (ap (resolved fs) (sym (stmt.rolls-Assign text index value token)) ∙ fold-roll-Stmt ResolvedStmt (Resolving.stmt_step fs) (Stmt-F.Assign text index value token))
 
-sites-Assign : (text : ArrayString) (index : Option Expr) (value : Expr) (token : ℕ) → stmt_sites (stmt.Assign text index value token) ≡ Sites.plain (λ place. use_of (assign index) place.scope.known place.home text token ∷ (part_sites index place.scope.known place.home ++ expr_sites value place.scope.known place.home))
+sites-Assign : (text : List ℕ) (index : Option Expr) (value : Expr) (token : ℕ) → stmt_sites (stmt.Assign text index value token) ≡ Sites.plain (λ place. use_of (assign index) place.scope.known place.home text token ∷ (part_sites index place.scope.known place.home ++ expr_sites value place.scope.known place.home))
 sites-Assign text index value token = ap stmt_sites (sym (stmt.rolls-Assign text index value token)) ∙ fold-roll-Stmt StmtSites Sites.stmt_step (Stmt-F.Assign text index value token)
 
 at-Return : (fs : List ℕ) (value : Option Expr) (token : ℕ) (known : List Declaration) → (resolved fs (stmt.Return value token)).at known ≡ Tree.Return (part_in fs value known)
@@ -175,7 +175,7 @@ declared-turns : (fs : List ℕ) → (resolved fs turns).declared ≡ []
 declared-turns fs = ap (λ s. s.declared) (resolved-For fs (Some first) (Some test) (Some step) body 33)
 
 sites-turns : stmt_sites turns ≡ Sites.plain (λ place.
-    let around = behind (stmt_sites first).declared (inside place) in
+    let around = place_after (stmt_sites first).declared (inside place) in
     (stmt_sites first).sites (inside place)
     ++ (expr_sites test around.scope.known around.home ++ (stmt_sites step).sites (inside around) ++ (stmt_sites body).sites (looped around)))
 sites-turns =
@@ -191,7 +191,7 @@ ruleset site_forms = (sites-Number, sites-Name, sites-Index, sites-Call, sites-B
 functions_mention : in_functions (functions_in (10 ∷ 21 ∷ []) small.items []) ≡ small_mentions
 functions_mention = simp resolved_forms
 
-resolved_mentions : mentions (program_in small) ≡ small_mentions
+resolved_mentions : mentions (plain_program small) ≡ small_mentions
 resolved_mentions = functions_mention
 
 bound_mentions : at_sites (function_tokens small.items) (program_sites small) ≡ small_mentions

@@ -1,6 +1,5 @@
 -- Where no rule is broken, an expression of the grammar mentions once it is resolved what the rules of scope bind.
 use Rattle.std.proofs.Common.{◌≡◌, ◌∙◌, ap, sym, subst, ℕ, suc, ◌-◌, Bool, true, List, [], ◌∷◌, ◌++◌, length, map, arith, refl, append_assoc}
-use Rattle.arrayvec.specs.ArrayString.{ArrayString}
 use Rattle.c_token.specs.declared.signs.Sign.{Sign}
 use Rattle.c_grammar.specs.declared.expr.Expr.{Expr}
 use Rattle.c_grammar.specs.declared.expr.Expr.TheVariants as expr
@@ -15,17 +14,17 @@ use Rattle.c_grammar.specs.ExpressionGrammar.Unary.{primary, operation}
 use Rattle.c_grammar.specs.ExpressionGrammar.Primary.{literal, variable, element, call, input, parenthesised}
 use Rattle.c_grammar.specs.ExpressionGrammar.Arguments.{nothing, some}
 use Rattle.c_grammar.specs.ExpressionGrammar.Listed.{one, further}
-use Rattle.c_types.specs.declared.declaration.Declaration.{Declaration}
+use Rattle.c_scopes.specs.declared.declaration.Declaration.{Declaration}
 use Rattle.c_types.specs.declared.site.Home.{Home}
 use Rattle.c_types.specs.declared.site.Rule.{Rule}
 use Rattle.c_types.specs.declared.site.Site.{Site}
-use Rattle.c_types.specs.Scopes.{latest}
+use Rattle.c_scopes.specs.Scopes.{latest}
 use Rattle.c_types.specs.Sites
 use Rattle.c_types.specs.Sites.{ExprSites, expr_sites, list_sites, exprs_in_turn}
-use Rattle.c_types.specs.Rules.{Breaks}
+use Rattle.c_types.specs.TypingRules.{Breaks}
 use Rattle.c_semantics.specs.ResolvedTree as Tree
-use Rattle.c_meaning.specs.Resolving
-use Rattle.c_meaning.specs.Resolving.{Resolved, arguments_in, list_in, typed}
+use Rattle.c_resolver.specs.Resolving
+use Rattle.c_resolver.specs.Resolving.{Resolved, arguments_in, list_in, typed}
 use Rattle.c_meaning.specs.Mentions.{Mention, at_site, at_sites, bound, in_arguments, in_expr}
 use Rattle.c_meaning.proofs.Uses.{named-bound, indexed-bound, called-bound, binary-operands, unary-operand}
 
@@ -78,14 +77,14 @@ number_agrees fs value unsigned token =
     (ap expr_sites (sym (expr.rolls-Number value unsigned token)) ∙ fold-roll-Expr ExprSites Sites.expr_step (Expr-F.Number value unsigned token))
     (λ known home clean. refl)
 
-name_agrees : (fs : List ℕ) (name : ArrayString) (token : ℕ) → Agrees fs (typed fs (expr.Name name token)) (expr_sites (expr.Name name token))
+name_agrees : (fs : List ℕ) (name : List ℕ) (token : ℕ) → Agrees fs (typed fs (expr.Name name token)) (expr_sites (expr.Name name token))
 name_agrees fs name token =
     by_layer fs (expr.Name name token) _ _
     (ap (typed fs) (sym (expr.rolls-Name name token)) ∙ fold-roll-Expr Resolved (Resolving.expr_step fs) (Expr-F.Name name token))
     (ap expr_sites (sym (expr.rolls-Name name token)) ∙ fold-roll-Expr ExprSites Sites.expr_step (Expr-F.Name name token))
     (λ known home clean. named-bound fs home token (latest known name) clean.0)
 
-index_agrees : (fs : List ℕ) (name : ArrayString) (index : Expr) (token : ℕ) → Agrees fs (typed fs index) (expr_sites index) →
+index_agrees : (fs : List ℕ) (name : List ℕ) (index : Expr) (token : ℕ) → Agrees fs (typed fs index) (expr_sites index) →
     Agrees fs (typed fs (expr.Index name index token)) (expr_sites (expr.Index name index token))
 index_agrees fs name index token agrees =
     by_layer fs (expr.Index name index token) _ _
@@ -106,7 +105,7 @@ arguments_in-map : (fs : List ℕ) (es : List Expr) (known : List Declaration) �
 arguments_in-map fs [] known = refl
 arguments_in-map fs (e ∷ es) known = ap (λ later. Tree.Argument (typed fs e known).expr later) (arguments_in-map fs es known)
 
-call_agrees : (fs : List ℕ) (name : ArrayString) (es : List Expr) (token : ℕ) → AgreesAll fs es →
+call_agrees : (fs : List ℕ) (name : List ℕ) (es : List Expr) (token : ℕ) → AgreesAll fs es →
     Agrees fs (typed fs (expr.Call name es token)) (expr_sites (expr.Call name es token))
 call_agrees fs name es token agrees =
     by_layer fs (expr.Call name es token) _ _

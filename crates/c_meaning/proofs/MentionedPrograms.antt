@@ -7,16 +7,17 @@ use Rattle.c_grammar.specs.declared.item.Item.TheVariants as item
 use Rattle.c_grammar.specs.declared.item.Program.{Program}
 use Rattle.c_grammar.specs.BoundedTokens.{Bounded}
 use Rattle.c_grammar.specs.ProgramGrammar.{IsItem, AreItems}
-use Rattle.c_types.specs.declared.declaration.Declaration.{Declaration}
+use Rattle.c_scopes.specs.declared.declaration.Declaration.{Declaration}
 use Rattle.c_types.specs.declared.site.Home.{Home}
 use Rattle.c_types.specs.declared.site.Rule.{Rule}
 use Rattle.c_types.specs.declared.site.Site.{Site}
-use Rattle.c_types.specs.Sites.{Place, behind, body_sites, declaration_of, declarations_of, entity_of, function_sites, in_function, item_sites, length_sites, parameter, parameter_sites, parameters_of}
-use Rattle.c_types.specs.Rules.{Breaks, Stands, at_token}
-use Rattle.c_types.specs.Rules.Violates.{by_site}
+use Rattle.c_scopes.specs.Declarations.{declaration_of, declarations_of, entity_of, parameter, parameters_of}
+use Rattle.c_types.specs.Sites.{Place, place_after, body_sites, function_sites, in_function, item_sites, length_sites, parameter_sites}
+use Rattle.c_types.specs.TypingRules.{Breaks, Stands, at_token}
+use Rattle.c_types.specs.TypingRules.Violates.{by_site}
 use Rattle.c_types.specs.Checked.{KeepsRules}
 use Rattle.c_semantics.specs.ResolvedTree as Tree
-use Rattle.c_meaning.specs.Resolving.{body_in, function_tokens, functions_in, parameters_in}
+use Rattle.c_resolver.specs.Resolving.{body_in, function_tokens, functions_in, parameters_in}
 use Rattle.c_meaning.specs.Mentions.{Declared, NamesAgree, at_sites, in_functions, in_parameters, in_stmt, items_sites}
 use Rattle.c_meaning.proofs.Uses.{TakesNone, AllTakeNone, take_none-append}
 use Rattle.c_meaning.proofs.MentionedExpressions.{Clean, Mentioned, mentioned-append}
@@ -26,7 +27,7 @@ use Rattle.c_meaning.proofs.MentionedStatements.{AgreesBody, body_agrees}
 
 parameters-mentioned : (fs : List ℕ) (n : ℕ) (ps : List Parameter) (place : Place) → in_parameters (parameters_in ps) ≡ at_sites fs (parameter_sites n ps place)
 parameters-mentioned fs n [] place = refl
-parameters-mentioned fs n (p ∷ ps) place = ap (λ ms. Declared p.token ∷ ms) (parameters-mentioned fs (n + 1) ps (behind (parameter p ∷ []) place))
+parameters-mentioned fs n (p ∷ ps) place = ap (λ ms. Declared p.token ∷ ms) (parameters-mentioned fs (n + 1) ps (place_after (parameter p ∷ []) place))
 
 parameters-take : (ps : List Parameter) → AllTakeNone (parameters_of ps)
 parameters-take [] = tt
@@ -37,9 +38,9 @@ function_agrees : (fs : List ℕ) (ps : List Parameter) (body : List Stmt) (know
 function_agrees fs ps body known home agrees takes =
     let place = in_function known home in
     mentioned-append fs (in_parameters (parameters_in ps)) (in_stmt (body_in fs body (known ++ parameters_of ps)))
-    (parameter_sites 0 ps place) (body_sites body (behind (parameters_of ps) place))
+    (parameter_sites 0 ps place) (body_sites body (place_after (parameters_of ps) place))
     (λ clean. parameters-mentioned fs 0 ps place)
-    (agrees (behind (parameters_of ps) place) (take_none-append known (parameters_of ps) takes (parameters-take ps)))
+    (agrees (place_after (parameters_of ps) place) (take_none-append known (parameters_of ps) takes (parameters-take ps)))
 
 -- ---- items
 
@@ -101,19 +102,19 @@ clean-both : (xs ys : List Site) → Clean xs → Clean ys → Clean (xs ++ ys)
 clean-both [] ys left right = right
 clean-both (x ∷ xs) ys left right = (left.0, clean-both xs ys left.1 right)
 
-clean-behind : (sites front back : List Site) → sites ≡ front ++ back → ((before : List Site) (s : Site) (rule : Rule) → Stands sites before s → Breaks s rule → ⊥) → Clean back
-clean-behind sites front [] all none = tt
-clean-behind sites front (s ∷ back) all none = (
+clean-after : (sites front back : List Site) → sites ≡ front ++ back → ((before : List Site) (s : Site) (rule : Rule) → Stands sites before s → Breaks s rule → ⊥) → Clean back
+clean-after sites front [] all none = tt
+clean-after sites front (s ∷ back) all none = (
   (λ rule breaks. none front s rule (record { back = back; all = all }) breaks),
-  clean-behind sites (front ++ s ∷ []) back (all ∙ sym (append_assoc front (s ∷ []) back)) none,
+  clean-after sites (front ++ s ∷ []) back (all ∙ sym (append_assoc front (s ∷ []) back)) none,
 )
 
 pub items-clean : (p : Program) → KeepsRules p → (before rest : List Item) → p.items ≡ before ++ rest → Clean (items_sites before rest)
 items-clean p keeps before [] all = tt
 items-clean p keeps before (x ∷ rest) all =
     clean-both (item_sites before x) (items_sites (before ++ x ∷ []) rest)
-    (clean-behind (item_sites before x) [] (item_sites before x) refl
-    (λ front s rule stands breaks. keeps (at_token s) rule (by_site before x front s (record { behind = rest; all = all }) stands refl breaks)))
+    (clean-place_after (item_sites before x) [] (item_sites before x) refl
+    (λ front s rule stands breaks. keeps (at_token s) rule (by_site before x front s (record { after = rest; all = all }) stands refl breaks)))
     (items-clean p keeps (before ++ x ∷ []) rest (all ∙ sym (append_assoc before (x ∷ []) rest)))
 
 pub names_agree : NamesAgree

@@ -1,6 +1,5 @@
 -- Where no rule is broken, a statement of the grammar mentions once it is resolved what the rules of scope bind.
 use Rattle.std.proofs.Common.{◌≡◌, ◌∙◌, ap, sym, subst, ℕ, Bool, List, [], ◌∷◌, ◌++◌, map, Option, Some, None, refl}
-use Rattle.arrayvec.specs.ArrayString.{ArrayString}
 use Rattle.c_grammar.specs.declared.expr.Expr.{Expr}
 use Rattle.c_grammar.specs.declared.stmt.Stmt.{Stmt}
 use Rattle.c_grammar.specs.declared.stmt.Stmt.TheVariants as stmt
@@ -8,17 +7,17 @@ use Rattle.c_grammar.specs.declared.stmt.Stmt.TheOpen.{Stmt-F}
 use Rattle.c_grammar.specs.declared.stmt.Stmt.TheFolds.{fold-roll-Stmt}
 use Rattle.c_grammar.specs.BoundedTokens.{Bounded}
 use Rattle.c_grammar.specs.StatementGrammar.{Local, Simple, First, Step, Maybe, Statement, Body}
-use Rattle.c_types.specs.declared.declaration.Declaration.{Declaration}
+use Rattle.c_scopes.specs.declared.declaration.Declaration.{Declaration}
 use Rattle.c_types.specs.declared.site.Home.{Home}
 use Rattle.c_types.specs.declared.site.Site.{Site}
-use Rattle.c_types.specs.Scopes.{latest}
+use Rattle.c_scopes.specs.Scopes.{latest}
 use Rattle.c_types.specs.Sites
-use Rattle.c_types.specs.Sites.{ExprSites, Place, StmtSites, behind, body_sites, expr_sites, inside, list_sites, looped, part_sites, stmt_sites, stmts_in_turn}
+use Rattle.c_types.specs.Sites.{ExprSites, Place, StmtSites, place_after, body_sites, expr_sites, inside, list_sites, looped, part_sites, stmt_sites, stmts_in_turn}
 use Rattle.c_semantics.specs.ResolvedTree as Tree
-use Rattle.c_meaning.specs.Resolving
-use Rattle.c_meaning.specs.Resolving.{Resolved, ResolvedStmt, body_in, list_in, part_in, resolved, typed}
+use Rattle.c_resolver.specs.Resolving
+use Rattle.c_resolver.specs.Resolving.{Resolved, ResolvedStmt, body_in, list_in, part_in, resolved, typed}
 use Rattle.c_meaning.specs.Mentions.{Mention, bound, in_expr, in_part, in_stmt}
-use Rattle.c_meaning.proofs.Rows.{resolved-Block, declared-Block}
+use Rattle.c_resolver.proofs.Rows.{resolved-Block, declared-Block}
 use Rattle.c_meaning.proofs.Uses.{AllTakeNone, take_none-append, whole-bound, element-bound, call-bound}
 use Rattle.c_meaning.proofs.MentionedExpressions.{Mentioned, mentioned-append, mentioned-by, Agrees, AgreesAll, expression_agrees, arguments_agree}
 
@@ -52,7 +51,7 @@ empty_agrees fs token =
     (ap stmt_sites (sym (stmt.rolls-Empty token)) ∙ fold-roll-Stmt StmtSites Sites.stmt_step (Stmt-F.Empty token))
     (record { declared = refl; takes = tt; sites = λ place takes clean. refl })
 
-local_agrees : (fs : List ℕ) (unsigned : Bool) (name : ArrayString) (value : Option Expr) (token : ℕ) → AgreesPart fs value →
+local_agrees : (fs : List ℕ) (unsigned : Bool) (name : List ℕ) (value : Option Expr) (token : ℕ) → AgreesPart fs value →
     AgreesStmt fs (resolved fs (stmt.Local unsigned name value token)) (stmt_sites (stmt.Local unsigned name value token))
 local_agrees fs unsigned name value token agrees =
     by_layer fs (stmt.Local unsigned name value token) _ _
@@ -64,7 +63,7 @@ local_agrees fs unsigned name value token agrees =
       sites = λ place takes clean. ap (λ ms. Mention.Declared token ∷ ms) (agrees place.scope.known place.home clean.1);
     })
 
-assign_agrees : (fs : List ℕ) (name : ArrayString) (value : Expr) (token : ℕ) → Agrees fs (typed fs value) (expr_sites value) →
+assign_agrees : (fs : List ℕ) (name : List ℕ) (value : Expr) (token : ℕ) → Agrees fs (typed fs value) (expr_sites value) →
     AgreesStmt fs (resolved fs (stmt.Assign name None value token)) (stmt_sites (stmt.Assign name None value token))
 assign_agrees fs name value token agrees =
     by_layer fs (stmt.Assign name None value token) _ _
@@ -78,7 +77,7 @@ assign_agrees fs name value token agrees =
           ∙ ap (λ ms. bound fs (latest place.scope.known name) ++ ms) (agrees place.scope.known place.home clean.1);
     })
 
-assign_at_agrees : (fs : List ℕ) (name : ArrayString) (index value : Expr) (token : ℕ) → Agrees fs (typed fs index) (expr_sites index) →
+assign_at_agrees : (fs : List ℕ) (name : List ℕ) (index value : Expr) (token : ℕ) → Agrees fs (typed fs index) (expr_sites index) →
     Agrees fs (typed fs value) (expr_sites value) →
     AgreesStmt fs (resolved fs (stmt.Assign name (Some index) value token)) (stmt_sites (stmt.Assign name (Some index) value token))
 assign_at_agrees fs name index value token first second =
@@ -96,7 +95,7 @@ assign_at_agrees fs name index value token first second =
           (first place.scope.known place.home) (second place.scope.known place.home) clean.1);
     })
 
-call_agrees : (fs : List ℕ) (name : ArrayString) (es : List Expr) (token : ℕ) → AgreesAll fs es →
+call_agrees : (fs : List ℕ) (name : List ℕ) (es : List Expr) (token : ℕ) → AgreesAll fs es →
     AgreesStmt fs (resolved fs (stmt.Call name es token)) (stmt_sites (stmt.Call name es token))
 call_agrees fs name es token agrees =
     by_layer fs (stmt.Call name es token) _ _
@@ -151,7 +150,7 @@ continue_agrees fs token =
 
 stmts_in_turn-map : (ss : List Stmt) (place : Place) → stmts_in_turn (map stmt_sites ss) place ≡ body_sites ss place
 stmts_in_turn-map [] place = refl
-stmts_in_turn-map (s ∷ ss) place = ap (λ sites. (stmt_sites s).sites place ++ sites) (stmts_in_turn-map ss (behind (stmt_sites s).declared place))
+stmts_in_turn-map (s ∷ ss) place = ap (λ sites. (stmt_sites s).sites place ++ sites) (stmts_in_turn-map ss (place_after (stmt_sites s).declared place))
 
 sites-Block : (body : List Stmt) (token : ℕ) (place : Place) → (stmt_sites (stmt.Block body token)).sites place ≡ body_sites body (inside place)
 sites-Block body token place =
@@ -178,10 +177,10 @@ none_agree fs place takes clean = refl
 one_agrees : (fs : List ℕ) (s : Stmt) (ss : List Stmt) → AgreesStmt fs (resolved fs s) (stmt_sites s) → AgreesBody fs ss → AgreesBody fs (s ∷ ss)
 one_agrees fs s ss first later place takes =
     mentioned-append fs (in_stmt ((resolved fs s).at place.scope.known)) (in_stmt (body_in fs ss (place.scope.known ++ (resolved fs s).declared)))
-    ((stmt_sites s).sites place) (body_sites ss (behind (stmt_sites s).declared place))
+    ((stmt_sites s).sites place) (body_sites ss (place_after (stmt_sites s).declared place))
     (first.sites place takes)
     (λ clean. ap (λ ds. in_stmt (body_in fs ss (place.scope.known ++ ds))) first.declared
-    ∙ later (behind (stmt_sites s).declared place) (take_none-append place.scope.known (stmt_sites s).declared takes first.takes) clean)
+    ∙ later (place_after (stmt_sites s).declared place) (take_none-append place.scope.known (stmt_sites s).declared takes first.takes) clean)
 
 -- ---- an `if` and loops
 
@@ -252,14 +251,14 @@ for_parts_agree : (fs : List ℕ) (rf rs rb : ResolvedStmt) (sf ss sb : StmtSite
     let around = known ++ rf.declared in
     Tree.For (rf.at known) (part_in fs test around) (rs.at around) (rb.at around)))
     (Sites.plain (λ place.
-    let around = behind sf.declared (inside place) in
+    let around = place_after sf.declared (inside place) in
     sf.sites (inside place) ++ (part_sites test around.scope.known around.home ++ ss.sites (inside around) ++ sb.sites (looped around))))
 for_parts_agree fs rf rs rb sf ss sb test first part step body = record {
   declared = refl;
   takes = tt;
   sites = λ place takes.
       let known = place.scope.known in
-      let around = behind sf.declared (inside place) in
+      let around = place_after sf.declared (inside place) in
       let inner : AllTakeNone around.scope.known = take_none-append known sf.declared takes first.takes in
       let tested = in_part (part_in fs test (known ++ sf.declared)) in
       let stepped = in_stmt (rs.at (known ++ sf.declared)) in

@@ -2,7 +2,6 @@
 use Rattle.std.proofs.Common.{◌≡◌, ◌⊎◌, inl, inr, ◌∙◌, ap, sym, subst, ℕ, suc, ◌+◌, ◌<◌, ◌≤◌, ◌==◌, Bool, cond, List, [], ◌∷◌, ◌++◌, length, Some, arith, refl, append_assoc, append-nil}
 use Rattle.std.specs.List.{slice_get}
 use Rattle.std.proofs.lemmas.Bool.Decides.{nat_tests}
-use Rattle.arrayvec.specs.ArrayString.{ArrayString}
 use Rattle.c_token.specs.declared.kinds.Kind.{Kind}
 use Rattle.c_grammar.specs.declared.stmt.Stmt.{Stmt}
 use Rattle.c_grammar.specs.declared.item.Kind3.{Kind3}
@@ -12,10 +11,10 @@ use Rattle.c_grammar.specs.declared.item.Item.TheVariants as item
 use Rattle.c_grammar.specs.BoundedTokens.{Bounded, bounded_all, numbered}
 use Rattle.c_grammar.specs.ProgramGrammar.{IsItem, AreItems}
 use Rattle.c_grammar.specs.TokenPrograms.{limit}
-use Rattle.c_types.specs.declared.declaration.Declaration.{Declaration}
-use Rattle.c_types.specs.Sites.{declaration_of, declarations_of, token_of}
-use Rattle.c_meaning.specs.Resolving.{function_in, function_tokens, functions_in, number_of}
-use Rattle.c_meaning.specs.Numbers.{NumbersLead}
+use Rattle.c_scopes.specs.declared.declaration.Declaration.{Declaration}
+use Rattle.c_scopes.specs.Declarations.{declaration_of, declarations_of, token_of}
+use Rattle.c_resolver.specs.Resolving.{function_in, function_tokens, functions_in, function_number}
+use Rattle.c_meaning.specs.FunctionNumbers.{NumbersLead}
 
 -- ---- places of tokens in a row
 
@@ -73,9 +72,9 @@ items-ascend (AreItems.further {ts = ts} {us = us} {x = x} {xs = xs} d ds) n fro
     let within = has-within n (token_of x) ts (from-front n ts us from) (item-has d) in
     (within.0, ascends-less (suc (token_of x)) (n + length ts) xs (omega (arith, within.1)) (items-ascend ds (n + length ts) (from-back n ts us from)))
 
-ascends-above : (n : ℕ) (before behind : List Item) (x : Item) → Ascends n (before ++ x ∷ behind) → n ≤ token_of x
-ascends-above n [] behind x ascends = ascends.0
-ascends-above n (y ∷ before) behind x ascends = omega (arith, ascends.0, ascends-above (suc (token_of y)) before behind x ascends.1)
+ascends-above : (n : ℕ) (before after : List Item) (x : Item) → Ascends n (before ++ x ∷ after) → n ≤ token_of x
+ascends-above n [] after x ascends = ascends.0
+ascends-above n (y ∷ before) after x ascends = omega (arith, ascends.0, ascends-above (suc (token_of y)) before after x ascends.1)
 
 -- ---- the number of a function, and what it leads to
 
@@ -85,53 +84,53 @@ number-here token rest = grind (arith, nat_tests)
 number-later : (t token rest : ℕ) → t < token → cond (t == token) 0 rest ≡ rest
 number-later t token rest less = grind (arith, nat_tests)
 
-number-before : (n : ℕ) (before behind : List Item) (private : Bool) (result : Kind3) (name : ArrayString) (parameters : List Parameter) (body : List Stmt) (token : ℕ) →
-    Ascends n (before ++ item.Function private result name parameters body token ∷ behind) →
-    number_of (function_tokens (before ++ item.Function private result name parameters body token ∷ behind)) token ≡ length (function_tokens before)
-number-before n [] behind private result name parameters body token ascends = number-here token (1 + number_of (function_tokens behind) token)
-number-before n (item.Object storage unsigned name' length' t ∷ before) behind private result name parameters body token ascends =
-    number-before (suc t) before behind private result name parameters body token ascends.1
-number-before n (item.Constant unsigned name' length' values braces t ∷ before) behind private result name parameters body token ascends =
-    number-before (suc t) before behind private result name parameters body token ascends.1
-number-before n (item.Untrusted name' t ∷ before) behind private result name parameters body token ascends =
-    number-before (suc t) before behind private result name parameters body token ascends.1
-number-before n (item.Function private' result' name' parameters' body' t ∷ before) behind private result name parameters body token ascends =
-    let above = ascends-above (suc t) before behind (item.Function private result name parameters body token) ascends.1 in
-    let later = number-before (suc t) before behind private result name parameters body token ascends.1 in
-    number-later t token (1 + number_of (function_tokens (before ++ item.Function private result name parameters body token ∷ behind)) token) (omega (arith, above))
+number-before : (n : ℕ) (before after : List Item) (private : Bool) (result : Kind3) (name : List ℕ) (parameters : List Parameter) (body : List Stmt) (token : ℕ) →
+    Ascends n (before ++ item.Function private result name parameters body token ∷ after) →
+    function_number (function_tokens (before ++ item.Function private result name parameters body token ∷ after)) token ≡ length (function_tokens before)
+number-before n [] after private result name parameters body token ascends = number-here token (1 + function_number (function_tokens after) token)
+number-before n (item.Object storage unsigned name' length' t ∷ before) after private result name parameters body token ascends =
+    number-before (suc t) before after private result name parameters body token ascends.1
+number-before n (item.Constant unsigned name' length' values braces t ∷ before) after private result name parameters body token ascends =
+    number-before (suc t) before after private result name parameters body token ascends.1
+number-before n (item.Untrusted name' t ∷ before) after private result name parameters body token ascends =
+    number-before (suc t) before after private result name parameters body token ascends.1
+number-before n (item.Function private' result' name' parameters' body' t ∷ before) after private result name parameters body token ascends =
+    let above = ascends-above (suc t) before after (item.Function private result name parameters body token) ascends.1 in
+    let later = number-before (suc t) before after private result name parameters body token ascends.1 in
+    number-later t token (1 + function_number (function_tokens (before ++ item.Function private result name parameters body token ∷ after)) token) (omega (arith, above))
     ∙ omega (arith, later)
 
-behind-one : (known : List Declaration) (d e : Declaration) (ds : List Declaration) → ((known ++ d ∷ []) ++ ds) ++ e ∷ [] ≡ (known ++ (d ∷ ds)) ++ e ∷ []
-behind-one known d e ds = ap (λ l. l ++ e ∷ []) (append_assoc known (d ∷ []) ds)
+after-one : (known : List Declaration) (d e : Declaration) (ds : List Declaration) → ((known ++ d ∷ []) ++ ds) ++ e ∷ [] ≡ (known ++ (d ∷ ds)) ++ e ∷ []
+after-one known d e ds = ap (λ l. l ++ e ∷ []) (append_assoc known (d ∷ []) ds)
 
-body-led : (fs : List ℕ) (known : List Declaration) (before behind : List Item) (private : Bool) (result : Kind3) (name : ArrayString) (parameters : List Parameter) (body : List Stmt) (token : ℕ) →
-    slice_get (functions_in fs (before ++ item.Function private result name parameters body token ∷ behind) known) (length (function_tokens before))
-    ≡ Some (function_in fs parameters body ((known ++ declarations_of before) ++ declaration_of (item.Function private result name parameters body token) ∷ []))
-body-led fs known [] behind private result name parameters body token =
-    ap (λ l. Some (function_in fs parameters body (l ++ declaration_of (item.Function private result name parameters body token) ∷ []))) (sym (append-nil known))
-body-led fs known (item.Object storage unsigned name' length' t ∷ before) behind private result name parameters body token =
+body-led : (fs : List ℕ) (known : List Declaration) (before after : List Item) (private : Bool) (result : Kind3) (name : List ℕ) (parameters : List Parameter) (body : List Stmt) (token : ℕ) →
+    slice_get (functions_in fs (before ++ item.Function private result name parameters body token ∷ after) known) (length (function_tokens before))
+    ≡ Some (function_in fs private parameters body ((known ++ declarations_of before) ++ declaration_of (item.Function private result name parameters body token) ∷ []))
+body-led fs known [] after private result name parameters body token =
+    ap (λ l. Some (function_in fs private parameters body (l ++ declaration_of (item.Function private result name parameters body token) ∷ []))) (sym (append-nil known))
+body-led fs known (item.Object storage unsigned name' length' t ∷ before) after private result name parameters body token =
     let d = declaration_of (item.Object storage unsigned name' length' t) in
-    body-led fs (known ++ d ∷ []) before behind private result name parameters body token
-    ∙ ap (λ l. Some (function_in fs parameters body l)) (behind-one known d (declaration_of (item.Function private result name parameters body token)) (declarations_of before))
-body-led fs known (item.Constant unsigned name' length' values braces t ∷ before) behind private result name parameters body token =
+    body-led fs (known ++ d ∷ []) before after private result name parameters body token
+    ∙ ap (λ l. Some (function_in fs private parameters body l)) (after-one known d (declaration_of (item.Function private result name parameters body token)) (declarations_of before))
+body-led fs known (item.Constant unsigned name' length' values braces t ∷ before) after private result name parameters body token =
     let d = declaration_of (item.Constant unsigned name' length' values braces t) in
-    body-led fs (known ++ d ∷ []) before behind private result name parameters body token
-    ∙ ap (λ l. Some (function_in fs parameters body l)) (behind-one known d (declaration_of (item.Function private result name parameters body token)) (declarations_of before))
-body-led fs known (item.Untrusted name' t ∷ before) behind private result name parameters body token =
+    body-led fs (known ++ d ∷ []) before after private result name parameters body token
+    ∙ ap (λ l. Some (function_in fs private parameters body l)) (after-one known d (declaration_of (item.Function private result name parameters body token)) (declarations_of before))
+body-led fs known (item.Untrusted name' t ∷ before) after private result name parameters body token =
     let d = declaration_of (item.Untrusted name' t) in
-    body-led fs (known ++ d ∷ []) before behind private result name parameters body token
-    ∙ ap (λ l. Some (function_in fs parameters body l)) (behind-one known d (declaration_of (item.Function private result name parameters body token)) (declarations_of before))
-body-led fs known (item.Function private' result' name' parameters' body' t ∷ before) behind private result name parameters body token =
+    body-led fs (known ++ d ∷ []) before after private result name parameters body token
+    ∙ ap (λ l. Some (function_in fs private parameters body l)) (after-one known d (declaration_of (item.Function private result name parameters body token)) (declarations_of before))
+body-led fs known (item.Function private' result' name' parameters' body' t ∷ before) after private result name parameters body token =
     let d = declaration_of (item.Function private' result' name' parameters' body' t) in
-    body-led fs (known ++ d ∷ []) before behind private result name parameters body token
-    ∙ ap (λ l. Some (function_in fs parameters body l)) (behind-one known d (declaration_of (item.Function private result name parameters body token)) (declarations_of before))
+    body-led fs (known ++ d ∷ []) before after private result name parameters body token
+    ∙ ap (λ l. Some (function_in fs private parameters body l)) (after-one known d (declaration_of (item.Function private result name parameters body token)) (declarations_of before))
 
 pub numbers_lead : NumbersLead
-numbers_lead p read before behind private result name parameters body token all =
+numbers_lead p read before after private result name parameters body token all =
     let x = item.Function private result name parameters body token in
-    let ascends : Ascends 0 (before ++ x ∷ behind) = subst (Ascends 0) all (items-ascend read.2 0 (from-numbered 0 read.0)) in
-    let number : number_of (function_tokens p.items) token ≡ length (function_tokens before) =
-    ap (λ items. number_of (function_tokens items) token) all ∙ number-before 0 before behind private result name parameters body token ascends in
+    let ascends : Ascends 0 (before ++ x ∷ after) = subst (Ascends 0) all (items-ascend read.2 0 (from-numbered 0 read.0)) in
+    let number : function_number (function_tokens p.items) token ≡ length (function_tokens before) =
+    ap (λ items. function_number (function_tokens items) token) all ∙ number-before 0 before after private result name parameters body token ascends in
     ap (λ n. slice_get (functions_in (function_tokens p.items) p.items []) n) number
     ∙ ap (λ items. slice_get (functions_in (function_tokens p.items) items []) (length (function_tokens before))) all
-    ∙ body-led (function_tokens p.items) [] before behind private result name parameters body token
+    ∙ body-led (function_tokens p.items) [] before after private result name parameters body token

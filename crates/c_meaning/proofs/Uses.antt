@@ -1,25 +1,24 @@
 -- Where no rule is broken, each use of a name mentions once it is resolved what it is bound to.
 use Rattle.std.proofs.Common.{◌≡◌, ℕ, suc, ◌||◌, Bool, true, false, cond, List, [], ◌∷◌, ◌++◌, length, Option, Some, None, arith, refl}
-use Rattle.arrayvec.specs.ArrayString.{ArrayString}
 use Rattle.c_token.specs.declared.signs.Sign.{Sign}
 use Rattle.c_token.specs.declared.signs.Sign.TheVariants as sign
 use Rattle.c_grammar.specs.declared.expr.Expr.{Expr}
 use Rattle.c_grammar.specs.Precedence.{precedence as rank, is_unary_operator}
-use Rattle.c_types.specs.declared.declaration.Binding.{Binding}
-use Rattle.c_types.specs.declared.declaration.Declaration.{Declaration}
-use Rattle.c_types.specs.declared.declaration.Entity.{Entity}
-use Rattle.c_types.specs.declared.declaration.Entity.TheVariants as entity
+use Rattle.c_scopes.specs.declared.declaration.Binding.{Binding}
+use Rattle.c_scopes.specs.declared.declaration.Declaration.{Declaration}
+use Rattle.c_scopes.specs.declared.declaration.Entity.{Entity}
+use Rattle.c_scopes.specs.declared.declaration.Entity.TheVariants as entity
 use Rattle.c_types.specs.declared.site.Home.{Home}
 use Rattle.c_types.specs.declared.site.How.{How}
 use Rattle.c_types.specs.declared.site.How.TheVariants.{Value, Element, Assign, AssignElement, Call, CallValue}
 use Rattle.c_types.specs.declared.site.Rule.{Rule}
 use Rattle.c_types.specs.declared.site.Rule.TheVariants.{Unknown, Shape, Arity}
 use Rattle.c_types.specs.declared.site.Site.TheVariants as site
-use Rattle.c_types.specs.Scopes.{latest, or_else, same_name}
-use Rattle.c_types.specs.Rules.{Breaks, is_void}
-use Rattle.c_types.specs.Rules.Breaks.{unknown, array_whole, scalar_indexed, object_called, function_named, no_value, other_number}
+use Rattle.c_scopes.specs.Scopes.{latest, or_else, bytes_eq}
+use Rattle.c_types.specs.TypingRules.{Breaks, is_void}
+use Rattle.c_types.specs.TypingRules.Breaks.{unknown, array_whole, scalar_indexed, object_called, function_named, no_value, other_number}
 use Rattle.c_semantics.specs.ResolvedTree as Tree
-use Rattle.c_meaning.specs.Resolving.{Typed, assigned, binary_of, call_of, called, indexed, list_in, named, unary_of}
+use Rattle.c_resolver.specs.Resolving.{Typed, assigned, binary_of, call_of, call_value, indexed, list_in, named, unary_of}
 use Rattle.c_meaning.specs.Mentions.{bound, bound_to, in_arguments, in_expr, in_stmt}
 
 -- no rule is broken by a use of a name
@@ -65,7 +64,7 @@ indexed-bound fs home at None place index fits = absurd (fits Unknown (unknown E
 indexed-bound fs home at (Some b) place index fits = indexed-known fs home at b.token b.entity place index fits
 
 called-known : (fs : List ℕ) (n : ℕ) (home : Home) (at token : ℕ) (e : Entity) (given : Tree.Arguments) → Fits (CallValue n) (Some (binding token e)) home at →
-    in_expr (called fs (Some (binding token e)) given).expr ≡ bound_to fs token e ++ in_arguments given
+    in_expr (call_value fs (Some (binding token e)) given).expr ≡ bound_to fs token e ++ in_arguments given
 called-known fs n home at token (entity.Local unsigned) given fits =
     absurd (fits Shape (object_called (CallValue n) (binding token (entity.Local unsigned)) home at refl refl))
 called-known fs n home at token (entity.Object class unsigned length) given fits =
@@ -75,7 +74,7 @@ called-known fs n home at token (entity.Function result true parameters) given f
 called-known fs n home at token (entity.Function result false parameters) given fits = refl
 
 pub called-bound : (fs : List ℕ) (n : ℕ) (home : Home) (at : ℕ) (means : Option Binding) (given : Tree.Arguments) → Fits (CallValue n) means home at →
-    in_expr (called fs means given).expr ≡ bound fs means ++ in_arguments given
+    in_expr (call_value fs means given).expr ≡ bound fs means ++ in_arguments given
 called-bound fs n home at None given fits = absurd (fits Unknown (unknown (CallValue n) home at))
 called-bound fs n home at (Some b) given fits = called-known fs n home at b.token b.entity given fits
 
@@ -139,10 +138,10 @@ bound-if : (test : Bool) (b : Binding) → TakesNone b.entity → IfBound (cond 
 bound-if true b takes = takes
 bound-if false b takes = tt
 
-pub latest-takes : (known : List Declaration) (name : ArrayString) → AllTakeNone known → IfBound (latest known name)
+pub latest-takes : (known : List Declaration) (name : List ℕ) → AllTakeNone known → IfBound (latest known name)
 latest-takes [] name takes = tt
 latest-takes (d ∷ known) name takes =
-    bound-or (latest known name) (cond (same_name d.name name) (Some d.binding) None) (latest-takes known name takes.1) (bound-if (same_name d.name name) d.binding takes.0)
+    bound-or (latest known name) (cond (bytes_eq d.name name) (Some d.binding) None) (latest-takes known name takes.1) (bound-if (bytes_eq d.name name) d.binding takes.0)
 
 call-known : (fs : List ℕ) (known : List Declaration) (home : Home) (at token : ℕ) (e : Entity) (es : List Expr) →
     TakesNone e → Fits (Call (length es)) (Some (binding token e)) home at →
@@ -163,7 +162,7 @@ call-means : (fs : List ℕ) (known : List Declaration) (home : Home) (at : ℕ)
 call-means fs known home at None es takes fits = absurd (fits Unknown (unknown (Call (length es)) home at))
 call-means fs known home at (Some b) es takes fits = call-known fs known home at b.token b.entity es takes fits
 
-pub call-bound : (fs : List ℕ) (known : List Declaration) (home : Home) (at : ℕ) (name : ArrayString) (es : List Expr) →
+pub call-bound : (fs : List ℕ) (known : List Declaration) (home : Home) (at : ℕ) (name : List ℕ) (es : List Expr) →
     AllTakeNone known → Fits (Call (length es)) (latest known name) home at →
     in_stmt (call_of fs (latest known name) (list_in fs es known)) ≡ bound fs (latest known name) ++ in_arguments (list_in fs es known)
 call-bound fs known home at name es takes fits = call-means fs known home at (latest known name) es (latest-takes known name takes) fits

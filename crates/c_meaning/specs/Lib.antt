@@ -1,4 +1,2 @@
 pub mod Mentions
-pub mod Numbers
-pub mod Resolving
-pub mod Seen
+pub mod FunctionNumbers

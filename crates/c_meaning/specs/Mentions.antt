@@ -3,16 +3,16 @@
 use Rattle.std.specs.Prelude.{◌≡◌, ℕ, true, false, List, [], ◌∷◌, ◌++◌, Option, Some, None}
 use Rattle.c_grammar.specs.declared.item.Item.{Item}
 use Rattle.c_grammar.specs.declared.item.Program.{Program}
-use Rattle.c_types.specs.declared.declaration.Binding.{Binding}
-use Rattle.c_types.specs.declared.declaration.Entity.{Entity}
-use Rattle.c_types.specs.declared.declaration.Entity.TheVariants as entity
+use Rattle.c_scopes.specs.declared.declaration.Binding.{Binding}
+use Rattle.c_scopes.specs.declared.declaration.Entity.{Entity}
+use Rattle.c_scopes.specs.declared.declaration.Entity.TheVariants as entity
 use Rattle.c_types.specs.declared.site.Site.{Site}
 use Rattle.c_types.specs.declared.site.Site.TheVariants as site
 use Rattle.c_types.specs.Sites.{item_sites}
-use Rattle.c_types.specs.Checked.{IsRead, KeepsRules}
+use Rattle.c_types.specs.Checked.{IsReadProgram, KeepsRules}
 use Rattle.c_semantics.specs.declared.tree.Variable.{Variable}
 use Rattle.c_semantics.specs.ResolvedTree as Tree
-use Rattle.c_meaning.specs.Resolving.{variable_of, number_of, function_tokens, program_in}
+use Rattle.c_resolver.specs.Resolving.{variable_of, function_number, function_tokens, plain_program}
 
 pub data Mention : Type 0 where
   -- a local or a parameter is declared, by the token of its name
@@ -86,7 +86,7 @@ bound_to functions token (entity.Local unsigned) = Scalar (variable_of token Non
 bound_to functions token (entity.Object class unsigned None) = Scalar (variable_of token (Some class)) ∷ []
 bound_to functions token (entity.Object class unsigned (Some length)) = Array (variable_of token (Some class)) length ∷ []
 bound_to functions token (entity.Function result true parameters) = []
-bound_to functions token (entity.Function result false parameters) = Called (number_of functions token) ∷ []
+bound_to functions token (entity.Function result false parameters) = Called (function_number functions token) ∷ []
 
 abbrev pub bound : List ℕ → Option Binding → List Mention
 bound functions None = []
@@ -107,7 +107,7 @@ abbrev pub at_sites : List ℕ → List Site → List Mention
 at_sites functions [] = []
 at_sites functions (s ∷ ss) = at_site functions s ++ at_sites functions ss
 
--- the sites of items behind others
+-- the sites of items after others
 abbrev pub items_sites : List Item → List Item → List Site
 items_sites before [] = []
 items_sites before (item ∷ items) = item_sites before item ++ items_sites (before ++ item ∷ []) items
@@ -121,4 +121,4 @@ program_sites p = items_sites [] p.items
 -- A program that is read from a text and keeps the typing rules mentions, once its names are resolved, what the rules of
 -- scope bind its uses to: the same declarations, variables with their classes, arrays with their lengths, and calls.
 abbrev pub NamesAgree : Type 0
-NamesAgree = (p : Program) → IsRead p → KeepsRules p → mentions (program_in p) ≡ at_sites (function_tokens p.items) (program_sites p)
+NamesAgree = (p : Program) → IsReadProgram p → KeepsRules p → mentions (plain_program p) ≡ at_sites (function_tokens p.items) (program_sites p)

@@ -1,6 +1,6 @@
 //! Laws of the resolution of names.
 ghost use Rattle.c_meaning.specs.Mentions.{NamesAgree};
-ghost use Rattle.c_meaning.specs.Numbers.{MainIsFound, NumbersLead};
+ghost use Rattle.c_meaning.specs.FunctionNumbers.{MainIsFound, NumbersLead};
 
 /// The names of a program are resolved as the rules of scope bind them (ISO/IEC 9899, section 6.2.1): the resolved program
 /// mentions, in the order of the source, the declaration, class and length that each use is bound to at its site, and the

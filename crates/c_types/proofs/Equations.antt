@@ -1,6 +1,5 @@
 -- The sites of each form of expression and statement, one equation each.
 use Rattle.std.proofs.Common.{◌≡◌, ◌∙◌, ap, sym, ℕ, ◌-◌, Bool, List, [], ◌∷◌, ◌++◌, length, map, Option, Some, None, is_some, refl, arith}
-use Rattle.arrayvec.specs.ArrayString.{ArrayString}
 use Rattle.c_token.specs.declared.signs.Sign.{Sign}
 use Rattle.c_grammar.specs.declared.expr.Expr.{Expr}
 use Rattle.c_grammar.specs.declared.expr.Expr.TheVariants as expr
@@ -10,12 +9,13 @@ use Rattle.c_grammar.specs.declared.stmt.Stmt.{Stmt}
 use Rattle.c_grammar.specs.declared.stmt.Stmt.TheVariants as stmt
 use Rattle.c_grammar.specs.declared.stmt.Stmt.TheOpen.{Stmt-F}
 use Rattle.c_grammar.specs.declared.stmt.Stmt.TheFolds.{fold-roll-Stmt}
-use Rattle.c_types.specs.declared.declaration.Declaration.{Declaration}
+use Rattle.c_scopes.specs.declared.declaration.Declaration.{Declaration}
 use Rattle.c_types.specs.declared.site.Home.{Home}
 use Rattle.c_types.specs.declared.site.How.TheVariants.{Value, Element, Call, CallValue}
 use Rattle.c_types.specs.declared.site.Site.TheVariants as site
-use Rattle.c_types.specs.Scopes.{is_again}
-use Rattle.c_types.specs.Sites.{ExprSites, expr_step, expr_sites, use_of, exprs_in_turn, list_sites, part_sites, Place, behind, inside, looped, StmtSites, stmts_in_turn, local, assign, stmt_step, stmt_sites, branch_sites, body_sites}
+use Rattle.c_scopes.specs.Scopes.{is_again}
+use Rattle.c_scopes.specs.Declarations.{local}
+use Rattle.c_types.specs.Sites.{ExprSites, expr_step, expr_sites, use_of, exprs_in_turn, list_sites, part_sites, Place, place_after, inside, looped, StmtSites, stmts_in_turn, assign, stmt_step, stmt_sites, branch_sites, body_sites}
 
 -- ---- lists
 
@@ -29,20 +29,20 @@ exprs_in_turn-map (e ∷ es) known home = ap (λ sites. expr_sites e known home 
 
 stmts_in_turn-map : (ss : List Stmt) (place : Place) → stmts_in_turn (map stmt_sites ss) place ≡ body_sites ss place
 stmts_in_turn-map [] place = refl
-stmts_in_turn-map (s ∷ ss) place = ap (λ sites. (stmt_sites s).sites place ++ sites) (stmts_in_turn-map ss (behind (stmt_sites s).declared place))
+stmts_in_turn-map (s ∷ ss) place = ap (λ sites. (stmt_sites s).sites place ++ sites) (stmts_in_turn-map ss (place_after (stmt_sites s).declared place))
 
 -- ---- expressions
 
 pub expr_sites-Number : (value : ℕ) (unsigned : Bool) (token : ℕ) (known : List Declaration) (home : Home) → expr_sites (expr.Number value unsigned token) known home ≡ []
 expr_sites-Number value unsigned token known home = ap (λ e. expr_sites e known home) (sym (expr.rolls-Number value unsigned token)) ∙ ap (λ sites. sites known home) (fold-roll-Expr ExprSites expr_step (Expr-F.Number value unsigned token))
 
-pub expr_sites-Name : (name : ArrayString) (token : ℕ) (known : List Declaration) (home : Home) → expr_sites (expr.Name name token) known home ≡ use_of Value known home name token ∷ []
+pub expr_sites-Name : (name : List ℕ) (token : ℕ) (known : List Declaration) (home : Home) → expr_sites (expr.Name name token) known home ≡ use_of Value known home name token ∷ []
 expr_sites-Name name token known home = ap (λ e. expr_sites e known home) (sym (expr.rolls-Name name token)) ∙ ap (λ sites. sites known home) (fold-roll-Expr ExprSites expr_step (Expr-F.Name name token))
 
-pub expr_sites-Index : (name : ArrayString) (index : Expr) (token : ℕ) (known : List Declaration) (home : Home) → expr_sites (expr.Index name index token) known home ≡ use_of Element known home name (token - 1) ∷ expr_sites index known home
+pub expr_sites-Index : (name : List ℕ) (index : Expr) (token : ℕ) (known : List Declaration) (home : Home) → expr_sites (expr.Index name index token) known home ≡ use_of Element known home name (token - 1) ∷ expr_sites index known home
 expr_sites-Index name index token known home = ap (λ e. expr_sites e known home) (sym (expr.rolls-Index name index token)) ∙ ap (λ sites. sites known home) (fold-roll-Expr ExprSites expr_step (Expr-F.Index name index token))
 
-pub expr_sites-Call : (name : ArrayString) (arguments : List Expr) (token : ℕ) (known : List Declaration) (home : Home) → expr_sites (expr.Call name arguments token) known home ≡ use_of (CallValue (length arguments)) known home name token ∷ list_sites arguments known home
+pub expr_sites-Call : (name : List ℕ) (arguments : List Expr) (token : ℕ) (known : List Declaration) (home : Home) → expr_sites (expr.Call name arguments token) known home ≡ use_of (CallValue (length arguments)) known home name token ∷ list_sites arguments known home
 expr_sites-Call name arguments token known home = ap (λ e. expr_sites e known home) (sym (expr.rolls-Call name arguments token)) ∙ ap (λ sites. sites known home) (fold-roll-Expr ExprSites expr_step (Expr-F.Call name arguments token))
     ∙ ap (λ n. use_of (CallValue n) known home name token ∷ exprs_in_turn (map expr_sites arguments) known home) (length-map_sites arguments)
     ∙ ap (λ sites. use_of (CallValue (length arguments)) known home name token ∷ sites) (exprs_in_turn-map arguments known home)
@@ -64,13 +64,13 @@ expr_sites-Binary op left right token known home = ap (λ e. expr_sites e known 
 pub stmt_sites-Empty : (token : ℕ) → stmt_sites (stmt.Empty token) ≡ record { declared = []; sites = λ place. [] }
 stmt_sites-Empty token = ap stmt_sites (sym (stmt.rolls-Empty token)) ∙ fold-roll-Stmt StmtSites stmt_step (Stmt-F.Empty token)
 
-pub stmt_sites-Local : (unsigned : Bool) (name : ArrayString) (value : Option Expr) (token : ℕ) → stmt_sites (stmt.Local unsigned name value token) ≡ record { declared = local unsigned name token ∷ []; sites = λ place. site.Local (is_again place.scope name) token ∷ part_sites value place.scope.known place.home }
+pub stmt_sites-Local : (unsigned : Bool) (name : List ℕ) (value : Option Expr) (token : ℕ) → stmt_sites (stmt.Local unsigned name value token) ≡ record { declared = local unsigned name token ∷ []; sites = λ place. site.Local (is_again place.scope name) token ∷ part_sites value place.scope.known place.home }
 stmt_sites-Local unsigned name value token = ap stmt_sites (sym (stmt.rolls-Local unsigned name value token)) ∙ fold-roll-Stmt StmtSites stmt_step (Stmt-F.Local unsigned name value token)
 
-pub stmt_sites-Assign : (name : ArrayString) (index : Option Expr) (value : Expr) (token : ℕ) → stmt_sites (stmt.Assign name index value token) ≡ record { declared = []; sites = λ place. use_of (assign index) place.scope.known place.home name token ∷ (part_sites index place.scope.known place.home ++ expr_sites value place.scope.known place.home) }
+pub stmt_sites-Assign : (name : List ℕ) (index : Option Expr) (value : Expr) (token : ℕ) → stmt_sites (stmt.Assign name index value token) ≡ record { declared = []; sites = λ place. use_of (assign index) place.scope.known place.home name token ∷ (part_sites index place.scope.known place.home ++ expr_sites value place.scope.known place.home) }
 stmt_sites-Assign name index value token = ap stmt_sites (sym (stmt.rolls-Assign name index value token)) ∙ fold-roll-Stmt StmtSites stmt_step (Stmt-F.Assign name index value token)
 
-pub stmt_sites-Call : (name : ArrayString) (arguments : List Expr) (token : ℕ) → stmt_sites (stmt.Call name arguments token) ≡ record { declared = []; sites = λ place. use_of (Call (length arguments)) place.scope.known place.home name token ∷ list_sites arguments place.scope.known place.home }
+pub stmt_sites-Call : (name : List ℕ) (arguments : List Expr) (token : ℕ) → stmt_sites (stmt.Call name arguments token) ≡ record { declared = []; sites = λ place. use_of (Call (length arguments)) place.scope.known place.home name token ∷ list_sites arguments place.scope.known place.home }
 stmt_sites-Call name arguments token = ap stmt_sites (sym (stmt.rolls-Call name arguments token)) ∙ fold-roll-Stmt StmtSites stmt_step (Stmt-F.Call name arguments token)
 
 pub stmt_sites-Release : (value : Expr) (token : ℕ) → stmt_sites (stmt.Release value token) ≡ record { declared = []; sites = λ place. expr_sites value place.scope.known place.home }
@@ -104,7 +104,7 @@ stmt_sites-While test body token = ap stmt_sites (sym (stmt.rolls-While test bod
 stmt_sites-For-none-none : (test : Option Expr) (body : Stmt) (token : ℕ) → stmt_sites (stmt.For None test None body token) ≡ record {
   declared = [];
   sites = λ place.
-      let around = behind (branch_sites None).declared (inside place) in
+      let around = place_after (branch_sites None).declared (inside place) in
       (branch_sites None).sites (inside place) ++ (part_sites test around.scope.known around.home ++ (branch_sites None).sites (inside around) ++ (stmt_sites body).sites (looped around));
 }
 stmt_sites-For-none-none test body token = ap stmt_sites (sym (stmt.rolls-For None test None body token)) ∙ fold-roll-Stmt StmtSites stmt_step (Stmt-F.For None test None body token)
@@ -112,7 +112,7 @@ stmt_sites-For-none-none test body token = ap stmt_sites (sym (stmt.rolls-For No
 stmt_sites-For-none-some : (test : Option Expr) (step : Stmt) (body : Stmt) (token : ℕ) → stmt_sites (stmt.For None test (Some step) body token) ≡ record {
   declared = [];
   sites = λ place.
-      let around = behind (branch_sites None).declared (inside place) in
+      let around = place_after (branch_sites None).declared (inside place) in
       (branch_sites None).sites (inside place) ++ (part_sites test around.scope.known around.home ++ (branch_sites (Some step)).sites (inside around) ++ (stmt_sites body).sites (looped around));
 }
 stmt_sites-For-none-some test step body token = ap stmt_sites (sym (stmt.rolls-For None test (Some step) body token)) ∙ fold-roll-Stmt StmtSites stmt_step (Stmt-F.For None test (Some step) body token)
@@ -120,7 +120,7 @@ stmt_sites-For-none-some test step body token = ap stmt_sites (sym (stmt.rolls-F
 stmt_sites-For-some-none : (first : Stmt) (test : Option Expr) (body : Stmt) (token : ℕ) → stmt_sites (stmt.For (Some first) test None body token) ≡ record {
   declared = [];
   sites = λ place.
-      let around = behind (branch_sites (Some first)).declared (inside place) in
+      let around = place_after (branch_sites (Some first)).declared (inside place) in
       (branch_sites (Some first)).sites (inside place) ++ (part_sites test around.scope.known around.home ++ (branch_sites None).sites (inside around) ++ (stmt_sites body).sites (looped around));
 }
 stmt_sites-For-some-none first test body token = ap stmt_sites (sym (stmt.rolls-For (Some first) test None body token)) ∙ fold-roll-Stmt StmtSites stmt_step (Stmt-F.For (Some first) test None body token)
@@ -128,7 +128,7 @@ stmt_sites-For-some-none first test body token = ap stmt_sites (sym (stmt.rolls-
 stmt_sites-For-some-some : (first : Stmt) (test : Option Expr) (step : Stmt) (body : Stmt) (token : ℕ) → stmt_sites (stmt.For (Some first) test (Some step) body token) ≡ record {
   declared = [];
   sites = λ place.
-      let around = behind (branch_sites (Some first)).declared (inside place) in
+      let around = place_after (branch_sites (Some first)).declared (inside place) in
       (branch_sites (Some first)).sites (inside place) ++ (part_sites test around.scope.known around.home ++ (branch_sites (Some step)).sites (inside around) ++ (stmt_sites body).sites (looped around));
 }
 stmt_sites-For-some-some first test step body token = ap stmt_sites (sym (stmt.rolls-For (Some first) test (Some step) body token)) ∙ fold-roll-Stmt StmtSites stmt_step (Stmt-F.For (Some first) test (Some step) body token)
@@ -136,7 +136,7 @@ stmt_sites-For-some-some first test step body token = ap stmt_sites (sym (stmt.r
 pub stmt_sites-For : (first : Option Stmt) (test : Option Expr) (step : Option Stmt) (body : Stmt) (token : ℕ) → stmt_sites (stmt.For first test step body token) ≡ record {
   declared = [];
   sites = λ place.
-      let around = behind (branch_sites first).declared (inside place) in
+      let around = place_after (branch_sites first).declared (inside place) in
       (branch_sites first).sites (inside place) ++ (part_sites test around.scope.known around.home ++ (branch_sites step).sites (inside around) ++ (stmt_sites body).sites (looped around));
 }
 stmt_sites-For None test None body token = stmt_sites-For-none-none test body token

@@ -6,9 +6,9 @@ use Rattle.c_grammar.specs.declared.item.Kind3.{Kind3}
 use Rattle.c_grammar.specs.declared.item.Kind3.TheVariants.{Int, Unsigned, Void}
 use Rattle.c_grammar.specs.declared.item.Item.{Item}
 use Rattle.c_grammar.specs.declared.item.Program.{Program}
-use Rattle.c_types.specs.declared.declaration.Binding.{Binding}
-use Rattle.c_types.specs.declared.declaration.Entity.{Entity}
-use Rattle.c_types.specs.declared.declaration.Entity.TheVariants.{Local, Object, Function}
+use Rattle.c_scopes.specs.declared.declaration.Binding.{Binding}
+use Rattle.c_scopes.specs.declared.declaration.Entity.{Entity}
+use Rattle.c_scopes.specs.declared.declaration.Entity.TheVariants.{Local, Object, Function}
 use Rattle.c_types.specs.declared.site.Home.{Home}
 use Rattle.c_types.specs.declared.site.How.{How}
 use Rattle.c_types.specs.declared.site.How.TheVariants.{Value, Element, Assign, AssignElement, Call, CallValue}
@@ -18,14 +18,15 @@ use Rattle.c_types.specs.declared.site.Site.{Site}
 use Rattle.c_types.specs.declared.site.Site.TheVariants as site
 use Rattle.c_types.specs.declared.verdict.Fault.{Fault}
 use Rattle.c_types.specs.declared.verdict.Verdict.{Verdict}
-use Rattle.c_types.specs.Rules.{is_call, is_whole, is_indexed, is_assignment, is_function, is_array, is_scalar, is_constant, is_private, is_void, is_without_value, HasArguments, Breaks, Stands, Violates, IsFirst, at_token, is_local, rank}
-use Rattle.c_types.specs.Rules.Breaks.{unknown, twice_local, twice_parameter, twice_global, self_call, constant_assigned, private_outside, array_whole, scalar_indexed, object_called, function_named, no_value, list_for_scalar, value_for_array, values_too_many, value_returned, nothing_returned, outside_loop, other_number, no_elements, too_long, global_too_many, parameter_too_many}
-use Rattle.c_types.specs.Verdicts.{misfits, differs_from, miscounts, is_barred, known_rule, use_rule, name_rule, shape_rule, misgiven, misreturns, site_rule, one_more, locals_behind, is_sooner, sooner, with_rule, note, noted, afresh}
-use Rattle.c_types.specs.Sites.{Follows, item_sites, declaration_of, declarations_of}
+use Rattle.c_types.specs.TypingRules.{is_call, is_whole, is_indexed, is_assignment, is_function, is_array, is_scalar, is_constant, is_private, is_void, is_without_value, HasArguments, Breaks, Stands, Violates, IsFirst, at_token, is_local, rule_order}
+use Rattle.c_types.specs.TypingRules.Breaks.{unknown, twice_local, twice_parameter, twice_global, self_call, constant_assigned, private_outside, array_whole, scalar_indexed, object_called, function_named, no_value, list_for_scalar, value_for_array, values_too_many, value_returned, nothing_returned, outside_loop, other_number, no_elements, too_long, global_too_many, parameter_too_many}
+use Rattle.c_types.specs.Verdicts.{misfits, differs_from, miscounts, is_barred, known_rule, use_rule, name_rule, shape_rule, misgiven, misreturns, site_rule, one_more, locals_after, is_sooner, sooner, with_rule, note, noted, afresh}
+use Rattle.c_scopes.specs.Declarations.{declaration_of, declarations_of}
+use Rattle.c_types.specs.Sites.{Follows, item_sites}
 use Rattle.c_types.specs.Walks.{items_noted}
-use Rattle.c_types.specs.Findings.{start, first_of}
+use Rattle.c_types.specs.Walks.{start, first_of}
 use Rattle.c_types.specs.Checked.{KeepsRules}
-use Rattle.c_types.specs.Rules.Violates.{by_site, local_too_many}
+use Rattle.c_types.specs.TypingRules.Violates.{by_site, local_too_many}
 use Rattle.c_types.proofs.Noted.{noted_append}
 
 -- ---- at one site
@@ -33,7 +34,7 @@ use Rattle.c_types.proofs.Noted.{noted_append}
 -- a rule that stands no later is told
 abbrev Tells : Option Rule → Rule → Type 0
 Tells None rule = ⊥
-Tells (Some told) rule = rank told ≤ rank rule
+Tells (Some told) rule = rule_order told ≤ rule_order rule
 
 -- the tests in turn
 known_tests : (a b c d : Bool) → Option Rule
@@ -396,9 +397,9 @@ told_breaks locals (site.Constant length values braces at) rule e =
 -- something was found that does not come after this
 abbrev pub Comes : Option Fault → ℕ → Rule → Type 0
 Comes None at rule = ⊥
-Comes (Some f) at rule = (f.at < at) ⊎ ((f.at ≡ at) × (rank f.rule ≤ rank rule))
+Comes (Some f) at rule = (f.at < at) ⊎ ((f.at ≡ at) × (rule_order f.rule ≤ rule_order rule))
 
--- a place and a rank that do not come after others
+-- a place and an order that do not come after others
 abbrev NotAfter : ℕ → ℕ → ℕ → ℕ → Type 0
 NotAfter a m b n = (a < b) ⊎ ((a ≡ b) × (m ≤ n))
 
@@ -431,14 +432,14 @@ later_is a m b n false false r e f g h =
 
 sooner_old : (g f : Fault) (b : Bool) → b ≡ is_sooner f g → (at : ℕ) (rule : Rule) → Comes (Some g) at rule → Comes (cond b (Some f) (Some g)) at rule
 sooner_old g f true is at rule h =
-    NotAfter-trans f.at (rank f.rule) g.at (rank g.rule) at (rank rule)
-    (sooner_is f.at (rank f.rule) g.at (rank g.rule) (nat_lt f.at g.at) (f.at == g.at) (nat_lt (rank f.rule) (rank g.rule)) refl refl refl (sym is)) h
+    NotAfter-trans f.at (rule_order f.rule) g.at (rule_order g.rule) at (rule_order rule)
+    (sooner_is f.at (rule_order f.rule) g.at (rule_order g.rule) (nat_lt f.at g.at) (f.at == g.at) (nat_lt (rule_order f.rule) (rule_order g.rule)) refl refl refl (sym is)) h
 sooner_old g f false is at rule h = h
 
 sooner_new : (g f : Fault) (b : Bool) → b ≡ is_sooner f g → Comes (cond b (Some f) (Some g)) f.at f.rule
 sooner_new g f true is = inr (refl, omega arith)
 sooner_new g f false is =
-    later_is f.at (rank f.rule) g.at (rank g.rule) (nat_lt f.at g.at) (f.at == g.at) (nat_lt (rank f.rule) (rank g.rule)) refl refl refl (sym is)
+    later_is f.at (rule_order f.rule) g.at (rule_order g.rule) (nat_lt f.at g.at) (f.at == g.at) (nat_lt (rule_order f.rule) (rule_order g.rule)) refl refl refl (sym is)
 
 Comes-sooner_old : (first : Option Fault) (f : Fault) (at : ℕ) (rule : Rule) → Comes first at rule → Comes (sooner first f) at rule
 Comes-sooner_old None f at rule h = absurd h
@@ -448,7 +449,7 @@ Comes-sooner_new : (first : Option Fault) (f : Fault) → Comes (sooner first f)
 Comes-sooner_new None f = inr (refl, omega arith)
 Comes-sooner_new (Some g) f = sooner_new g f (is_sooner f g) refl
 
-Comes-weaken : (first : Option Fault) (at : ℕ) (told rule : Rule) → rank told ≤ rank rule → Comes first at told → Comes first at rule
+Comes-weaken : (first : Option Fault) (at : ℕ) (told rule : Rule) → rule_order told ≤ rule_order rule → Comes first at told → Comes first at rule
 Comes-weaken None at told rule le h = h
 Comes-weaken (Some f) at told rule le (inl x) = inl x
 Comes-weaken (Some f) at told rule le (inr x) = inr (x.0, omega (arith, x.1))
@@ -483,7 +484,7 @@ Comes-breaks v front back s rule breaks =
 
 -- ---- the number of locals
 
-behind_is : (locals : ℕ) (s : Site) → locals_behind locals s ≡ cond (is_local s) (one_more locals) locals
+behind_is : (locals : ℕ) (s : Site) → locals_after locals s ≡ cond (is_local s) (one_more locals) locals
 behind_is locals (site.Use how means home at) = refl
 behind_is locals (site.Local again at) = refl
 behind_is locals (site.Parameter number again at) = refl
@@ -496,7 +497,7 @@ behind_is locals (site.Constant length values braces at) = refl
 one_more_is : (locals : ℕ) → locals ≤ 257 → one_more locals ≡ min (locals + 1) 257
 one_more_is locals le = grind (arith, nat_tests)
 
-note_locals : (v : Verdict) (s : Site) → (note v s).locals ≡ locals_behind v.locals s
+note_locals : (v : Verdict) (s : Site) → (note v s).locals ≡ locals_after v.locals s
 unfolding note
 note_locals v s = refl
 
@@ -597,27 +598,27 @@ Comes-items before (item ∷ items) v at rule h =
     (Comes-noted (afresh v) (item_sites before item) at rule h))
 
 -- what one item shows is found, or something sooner is
-Comes-from : (before more : List Item) (item : Item) (behind : List Item) (v : Verdict) (at : ℕ) (rule : Rule) →
+Comes-from : (before more : List Item) (item : Item) (after : List Item) (v : Verdict) (at : ℕ) (rule : Rule) →
     ((w : Verdict) → Comes (noted (afresh w) (item_sites (before ++ more) item)).first at rule) →
-    Comes (items_noted (length before) (declarations_of before) (more ++ item ∷ behind) v).first at rule
-Comes-from before [] item behind v at rule shows =
-    rw (items_step before item behind v)
-    (Comes-items (before ++ item ∷ []) behind (noted (afresh v) (item_sites before item)) at rule
+    Comes (items_noted (length before) (declarations_of before) (more ++ item ∷ after) v).first at rule
+Comes-from before [] item after v at rule shows =
+    rw (items_step before item after v)
+    (Comes-items (before ++ item ∷ []) after (noted (afresh v) (item_sites before item)) at rule
     (subst (λ xs. Comes (noted (afresh v) (item_sites xs item)).first at rule) (append-nil before) (shows v)))
-Comes-from before (x ∷ more) item behind v at rule shows =
-    rw (items_step before x (more ++ item ∷ behind) v)
-    (Comes-from (before ++ x ∷ []) more item behind (noted (afresh v) (item_sites before x)) at rule
+Comes-from before (x ∷ more) item after v at rule shows =
+    rw (items_step before x (more ++ item ∷ after) v)
+    (Comes-from (before ++ x ∷ []) more item after (noted (afresh v) (item_sites before x)) at rule
     (λ w. subst (λ xs. Comes (noted (afresh w) (item_sites xs item)).first at rule) (sym (append_assoc before (x ∷ []) more)) (shows w)))
 
 -- each violation is found, or something sooner is
 Comes-violation : (p : Program) (at : ℕ) (rule : Rule) → Violates p at rule → Comes (first_of p.items) at rule
 Comes-violation p at rule (by_site before item front s follows stands place breaks) =
     rw follows.all
-    (Comes-from [] before item follows.behind start at rule
+    (Comes-from [] before item follows.after start at rule
     (λ w. rw stands.all (subst (λ n. Comes (noted (afresh w) (front ++ s ∷ stands.back)).first n rule) place (Comes-breaks (afresh w) front stands.back s rule breaks))))
 Comes-violation p at rule (local_too_many before item front s follows stands place is_one count many) =
     rw (follows.all, many)
-    (Comes-from [] before item follows.behind start at TooMany
+    (Comes-from [] before item follows.after start at TooMany
     (λ w. rw stands.all (subst (λ n. Comes (noted (afresh w) (front ++ s ∷ stands.back)).first n TooMany) place (Comes-local (afresh w) front stands.back s refl is_one count))))
 
 -- what is found is a violation
@@ -636,7 +637,7 @@ found_violates : (p : Program) (before items : List Item) (v : Verdict) (f : Fau
     (items_noted (length before) (declarations_of before) items v).first ≡ Some f → (v.first ≡ Some f) ⊎ Violates p f.at f.rule
 found_violates p before [] v f all e = inl e
 found_violates p before (item ∷ items) v f all e =
-    let follows : Follows p before item = record { behind = items; all = all } in
+    let follows : Follows p before item = record { after = items; all = all } in
     let again = found_violates p (before ++ item ∷ []) items (noted (afresh v) (item_sites before item)) f
     (all ∙ sym (append_assoc before (item ∷ []) items)) (ap (λ w. w.first) (sym (items_step before item items v)) ∙ e) in
     elim again [

@@ -2,7 +2,6 @@ pub mod Answered
 pub mod Equations
 pub mod Exact
 pub mod Globals
-pub mod KeptLemmas
 pub mod Noted
 pub mod Rooms
 mod Worked

@@ -2,11 +2,11 @@
 use Rattle.std.proofs.Common.{◌≡◌, ◌∙◌, ap, sym, ℕ, ◌+◌, ◌<◌, suc, List, [], ◌∷◌, ◌++◌, length, drop, get_or, Option, refl, add-one, drop-cons, append_assoc, append-nil, take, arith}
 use Rattle.std.proofs.lemmas.Grind.{common_steps}
 use Rattle.c_grammar.specs.declared.expr.Expr.{Expr}
-use Rattle.c_types.specs.declared.declaration.Declaration.{Declaration}
+use Rattle.c_scopes.specs.declared.declaration.Declaration.{Declaration}
 use Rattle.c_types.specs.declared.site.Home.{Home}
 use Rattle.c_grammar.specs.declared.stmt.Stmt.{Stmt}
 use Rattle.c_grammar.specs.declared.stmt.Stmt.TheVariants as stmt
-use Rattle.c_types.specs.Sites.{expr_sites, list_sites, part_sites, Place, inside, looped, behind, stmt_sites, branch_sites, body_sites}
+use Rattle.c_types.specs.Sites.{expr_sites, list_sites, part_sites, Place, inside, looped, place_after, stmt_sites, branch_sites, body_sites}
 use Rattle.c_types.specs.Walks.{declared_in}
 use Rattle.c_types.proofs.Equations.{stmt_sites-If, stmt_sites-While, stmt_sites-For}
 use Rattle.c_types.specs.declared.site.Site.{Site}
@@ -32,10 +32,10 @@ behind_step names ss i s within is =
     rw next (append_assoc names (stmt_sites s).declared (declared_in (drop (i + 1) ss)))
 
 pub body_step : (v : Verdict) (ss : List Stmt) (i : ℕ) (s : Stmt) (place : Place) → i < length ss → s ≡ get_or ss i s →
-    noted (noted v ((stmt_sites s).sites place)) (body_sites (drop (i + 1) ss) (behind (stmt_sites s).declared place)) ≡ noted v (body_sites (drop i ss) place)
+    noted (noted v ((stmt_sites s).sites place)) (body_sites (drop (i + 1) ss) (place_after (stmt_sites s).declared place)) ≡ noted v (body_sites (drop i ss) place)
 body_step v ss i s place within is =
     let next : drop i ss ≡ s ∷ drop (i + 1) ss = rw add-one (drop-cons ss i s within ∙ ap (λ x. x ∷ drop (suc i) ss) (sym is)) in
-    sym (ap (λ xs. noted v (body_sites xs place)) next ∙ noted_append v ((stmt_sites s).sites place) (body_sites (drop (i + 1) ss) (behind (stmt_sites s).declared place)))
+    sym (ap (λ xs. noted v (body_sites xs place)) next ∙ noted_append v ((stmt_sites s).sites place) (body_sites (drop (i + 1) ss) (place_after (stmt_sites s).declared place)))
 
 -- the parts of an `if` and of loops
 pub if_parts : (v v1 v2 v3 : Verdict) (place : Place) (test : Expr) (body : Stmt) (other : Option Stmt) (token : ℕ) →
@@ -57,7 +57,7 @@ while_parts v v1 v2 place test body token e1 e2 =
     e2 ∙ ap (λ x. noted x b) e1 ∙ sym (noted_append v a b) ∙ ap (λ s. noted v (s.sites place)) (sym (stmt_sites-While test body token))
 
 pub for_parts : (v v1 v2 v3 v4 : Verdict) (place around : Place) (first step : Option Stmt) (test : Option Expr) (body : Stmt) (token : ℕ) →
-    around ≡ behind (branch_sites first).declared (inside place) →
+    around ≡ place_after (branch_sites first).declared (inside place) →
     v1 ≡ noted v ((branch_sites first).sites (inside place)) → v2 ≡ noted v1 (part_sites test around.scope.known around.home) →
     v3 ≡ noted v2 ((branch_sites step).sites (inside around)) → v4 ≡ noted v3 ((stmt_sites body).sites (looped around)) →
     v4 ≡ noted v ((stmt_sites (stmt.For first test step body token)).sites place)
@@ -75,7 +75,7 @@ for_parts v v1 v2 v3 v4 place around first step test body token is e1 e2 e3 e4 =
 pub take_front : {A : Type 0} (xs ys : List A) → take (length xs) (xs ++ ys) ≡ xs
 take_front xs ys = grind (arith, common_steps)
 
--- what is known behind a `for`
+-- what is known after a `for`
 pub for_names : (names after : List Declaration) (first step : Option Stmt) (test : Option Expr) (body : Stmt) (token start : ℕ) →
     start ≡ length names → after ≡ names ++ (branch_sites first).declared →
     take start after ≡ names ++ (stmt_sites (stmt.For first test step body token)).declared

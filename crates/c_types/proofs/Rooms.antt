@@ -9,9 +9,9 @@ use Rattle.c_grammar.specs.BoundedTokens.{numbered, Bounded, bounded_all, name, 
 use Rattle.c_grammar.specs.ProgramGrammar.{IsItem, AreItems}
 use Rattle.c_grammar.specs.ProgramGrammar.IsItem.{object, constant, untrusted, function}
 use Rattle.c_grammar.specs.ProgramGrammar.AreItems.{nothing, further}
-use Rattle.c_types.specs.Sites.{token_of}
+use Rattle.c_scopes.specs.Declarations.{token_of}
 use Rattle.c_types.specs.Walks.{HasRoom}
-use Rattle.c_types.specs.Checked.{IsRead}
+use Rattle.c_types.specs.Checked.{IsReadProgram}
 
 -- the numbers of the tokens are below this one
 abbrev Below : ℕ → List Bounded → Type 0
@@ -48,6 +48,6 @@ items_room _ _ nothing h = λ k d within. absurd (omega arith)
 items_room _ _ (further {ts = ts} {us = us} {x = x} {xs = xs} one more) h =
     All-cons HasRoom x xs (room x (item_below 262144 ts x one (below_left 262144 ts us h))) (items_room us xs more (below_right 262144 ts us h))
 
-pub read_rooms : (p : Program) → IsRead p → All HasRoom p.items
+pub read_rooms : (p : Program) → IsReadProgram p → All HasRoom p.items
 read_rooms p read =
     items_room (bounded_all 64 (numbered 0 read.0)) p.items read.2 (numbered_below 262144 64 0 read.0 (omega (arith, read.1)))

@@ -1,30 +1,27 @@
 -- The definitions on small programs.
 use Rattle.std.proofs.Common.{◌≡◌, ℕ, true, false, List, [], ◌∷◌, codes, Some, None, refl}
-use Rattle.arrayvec.specs.ArrayString.{ArrayString}
 use Rattle.c_grammar.specs.declared.expr.Expr.TheVariants as expr
 use Rattle.c_grammar.specs.declared.stmt.Stmt.TheVariants as stmt
 use Rattle.c_grammar.specs.declared.item.Kind3.TheVariants.{Int}
 use Rattle.c_grammar.specs.declared.item.Item.{Item}
 use Rattle.c_grammar.specs.declared.item.Item.TheVariants as item
-use Rattle.c_types.specs.declared.declaration.Binding.{Binding}
-use Rattle.c_types.specs.declared.declaration.Entity.TheVariants.{Local}
+use Rattle.c_scopes.specs.declared.declaration.Binding.{Binding}
+use Rattle.c_scopes.specs.declared.declaration.Entity.TheVariants.{Local}
 use Rattle.c_types.specs.declared.site.How.TheVariants.{Value, Assign, CallValue}
 use Rattle.c_types.specs.declared.site.Site.TheVariants as site
 use Rattle.c_types.specs.declared.site.Rule.TheVariants.{Unknown, Twice, Recursive}
-use Rattle.c_types.specs.Sites.{item_sites, declaration_of}
-use Rattle.c_types.specs.Rules.{Violates}
-use Rattle.c_types.specs.Rules.Breaks.{unknown, twice_local, self_call as calls_itself}
-use Rattle.c_types.specs.Rules.Violates.{by_site}
+use Rattle.c_scopes.specs.Declarations.{declaration_of}
+use Rattle.c_types.specs.Sites.{item_sites}
+use Rattle.c_types.specs.TypingRules.{Violates}
+use Rattle.c_types.specs.TypingRules.Breaks.{unknown, twice_local, self_call as calls_itself}
+use Rattle.c_types.specs.TypingRules.Violates.{by_site}
 use Rattle.c_types.specs.Checked.{KeepsRules, has_main}
 use Rattle.c_types.proofs.Equations.{expr_forms, stmt_forms}
 use Rattle.c_types.proofs.Exact.{none_is}
 
-abbrev named : List ℕ → ArrayString
-named bytes = record { bytes = bytes; spare = [] }
-
 -- `int f(void){return f();}`
 abbrev self_call : Item
-self_call = item.Function false Int (named (codes "f")) [] (stmt.Return (Some (expr.Call (named (codes "f")) [] 7)) 6 ∷ []) 1
+self_call = item.Function false Int (codes "f") [] (stmt.Return (Some (expr.Call (codes "f") [] 7)) 6 ∷ []) 1
 
 self_call_sites : item_sites [] self_call ≡
     site.Global 0 false 1
@@ -38,7 +35,7 @@ self_call_violates : Violates (record { items = self_call ∷ [] }) 7 Recursive
 self_call_violates =
     by_site [] self_call (site.Global 0 false 1 ∷ site.Return Int true 6 ∷ [])
     (site.Use (CallValue 0) (Some (declaration_of self_call).binding) (record { private = false; result = Int; token = 1 }) 7)
-    (record { behind = []; all = refl }) (record { back = []; all = self_call_sites }) refl
+    (record { after = []; all = refl }) (record { back = []; all = self_call_sites }) refl
     (calls_itself (CallValue 0) (declaration_of self_call).binding (record { private = false; result = Int; token = 1 }) 7 refl refl)
 
 -- An empty program breaks no rule, and has no `main`.
@@ -51,11 +48,11 @@ empty_has_no_main = refl
 -- `int f(int a){int b=b;{int a;a=b;}for(int a=a;;)break;int a;}`, a local in its own value, a parameter hidden in a block and declared again
 -- in the outermost one, and the end of scopes
 abbrev scopes : Item
-scopes = item.Function false Int (named (codes "f")) (record { unsigned = false; name = named (codes "a"); token = 4 } ∷ [])
-    (stmt.Local false (named (codes "b")) (Some (expr.Name (named (codes "b")) 10)) 8
-    ∷ stmt.Block (stmt.Local false (named (codes "a")) None 14 ∷ stmt.Assign (named (codes "a")) None (expr.Name (named (codes "b")) 18) 16 ∷ []) 12
-    ∷ stmt.For (Some (stmt.Local false (named (codes "a")) (Some (expr.Name (named (codes "a")) 26)) 24)) None None (stmt.Break 30) 21
-    ∷ stmt.Local false (named (codes "a")) None 33
+scopes = item.Function false Int (codes "f") (record { unsigned = false; name = codes "a"; token = 4 } ∷ [])
+    (stmt.Local false (codes "b") (Some (expr.Name (codes "b") 10)) 8
+    ∷ stmt.Block (stmt.Local false (codes "a") None 14 ∷ stmt.Assign (codes "a") None (expr.Name (codes "b") 18) 16 ∷ []) 12
+    ∷ stmt.For (Some (stmt.Local false (codes "a") (Some (expr.Name (codes "a") 26)) 24)) None None (stmt.Break 30) 21
+    ∷ stmt.Local false (codes "a") None 33
     ∷ []) 1
 
 abbrev bound : ℕ → Binding
@@ -81,7 +78,7 @@ own_value_violates : Violates (record { items = scopes ∷ [] }) 10 Unknown
 own_value_violates =
     by_site [] scopes (site.Global 0 false 1 ∷ site.Parameter 0 false 4 ∷ site.Local false 8 ∷ [])
     (site.Use Value None (record { private = false; result = Int; token = 1 }) 10)
-    (record { behind = []; all = refl })
+    (record { after = []; all = refl })
     (record {
       back = site.Local false 14
           ∷ site.Use Assign (Some (bound 14)) (record { private = false; result = Int; token = 1 }) 16
@@ -109,4 +106,4 @@ again_violates =
     ∷ site.Use Value (Some (bound 4)) (record { private = false; result = Int; token = 1 }) 26
     ∷ site.Jump true 30
     ∷ [])
-    (site.Local true 33) (record { behind = []; all = refl }) (record { back = []; all = scopes_sites }) refl (twice_local 33)
+    (site.Local true 33) (record { after = []; all = refl }) (record { back = []; all = scopes_sites }) refl (twice_local 33)

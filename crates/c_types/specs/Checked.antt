@@ -1,4 +1,4 @@
--- What is known of a program that keeps the typing rules, and why one is refused.
+-- Promise: what is known of a program that keeps the typing rules, and why one is refused.
 use Rattle.std.specs.Prelude.{◌≡◌, ℕ, ◌≤◌, Bool, true, false, not, ◌&&◌, ◌==◌, List, length, codes, Option, Some, None}
 use Rattle.std.specs.Str.{bytes_eq}
 use Rattle.std.specs.List.{list_any, filter_map}
@@ -17,12 +17,12 @@ use Rattle.c_types.specs.declared.site.Rule.{Rule}
 use Rattle.c_types.specs.declared.site.Rule.TheVariants as rule
 use Rattle.c_types.specs.declared.checked.Object.{Object}
 use Rattle.c_types.specs.declared.checked.Function.{Function}
-use Rattle.c_types.specs.Sites.{class_of}
-use Rattle.c_types.specs.Rules.{Violates, IsFirst}
+use Rattle.c_scopes.specs.Declarations.{class_of}
+use Rattle.c_types.specs.TypingRules.{Violates, IsFirst}
 
 -- the grammar gives the program to some tokens, at most as many as a source has bytes, and no level is above the limit
-abbrev pub IsRead : Program → Type 0
-IsRead p = (kinds : List Kind) × (length kinds ≤ MAX_SOURCE_BYTES) × AreProgram kinds p
+abbrev pub IsReadProgram : Program → Type 0
+IsReadProgram p = (kinds : List Kind) × (length kinds ≤ MAX_SOURCE_BYTES) × AreProgram kinds p
 
 -- no rule is broken
 abbrev pub KeepsRules : Program → Type 0
@@ -39,7 +39,7 @@ is_main (item.Object class unsigned name length token) = false
 is_main (item.Constant unsigned name length values braces token) = false
 is_main (item.Untrusted name token) = false
 is_main (item.Function private result name parameters body token) =
-    bytes_eq name.bytes (codes "main") && is_int result && (length parameters == 0) && not private
+    bytes_eq name (codes "main") && is_int result && (length parameters == 0) && not private
 
 abbrev pub has_main : List Item → Bool
 has_main items = list_any is_main items
@@ -50,30 +50,30 @@ pub record IsTyped (p : Program) : Type 0 where
   pub main : has_main p.items ≡ true
 
 -- an object or a constant
-abbrev pub object_of : Item → Option Object
-object_of (item.Object storage unsigned name length token) =
+abbrev pub listed_object : Item → Option Object
+listed_object (item.Object storage unsigned name length token) =
     Some (record { name = name; class = class_of storage; unsigned = unsigned; length = length })
-object_of (item.Constant unsigned name length values braces token) =
+listed_object (item.Constant unsigned name length values braces token) =
     Some (record { name = name; class = class.Constant; unsigned = unsigned; length = length })
-object_of (item.Untrusted name token) = None
-object_of (item.Function private result name parameters body token) = None
+listed_object (item.Untrusted name token) = None
+listed_object (item.Function private result name parameters body token) = None
 
 -- the objects and constants of items, in order
-abbrev pub objects_of : List Item → List Object
-objects_of items = filter_map object_of items
+abbrev pub listed_objects : List Item → List Object
+listed_objects items = filter_map listed_object items
 
 -- a function
-abbrev pub function_of : Item → Option Function
-function_of (item.Object storage unsigned name length token) = None
-function_of (item.Constant unsigned name length values braces token) = None
-function_of (item.Untrusted name token) =
+abbrev pub listed_function : Item → Option Function
+listed_function (item.Object storage unsigned name length token) = None
+listed_function (item.Constant unsigned name length values braces token) = None
+listed_function (item.Untrusted name token) =
     Some (record { name = name; private = false; untrusted = true; result = Void; parameters = 0 })
-function_of (item.Function private result name parameters body token) =
+listed_function (item.Function private result name parameters body token) =
     Some (record { name = name; private = private; untrusted = false; result = result; parameters = length parameters })
 
 -- the functions of items, in order
-abbrev pub functions_of : List Item → List Function
-functions_of items = filter_map function_of items
+abbrev pub listed_functions : List Item → List Function
+listed_functions items = filter_map listed_function items
 
 -- a function has no more parameters than the limit
 abbrev pub HasFewParameters : Item → Type 0
@@ -94,14 +94,14 @@ error_at at rule.TooLong = error.TooLong at
 error_at at rule.TooMany = error.TooMany at
 
 -- Why a program is refused: its first violation, or no `main`. Of want of memory nothing is said.
-abbrev pub IsRefused : Program → TypeError → Type 0
-IsRefused p (error.Unknown at) = IsFirst p at rule.Unknown
-IsRefused p (error.Twice at) = IsFirst p at rule.Twice
-IsRefused p (error.Recursive at) = IsFirst p at rule.Recursive
-IsRefused p (error.Class at) = IsFirst p at rule.Class
-IsRefused p (error.Shape at) = IsFirst p at rule.Shape
-IsRefused p (error.Arity at) = IsFirst p at rule.Arity
-IsRefused p (error.TooLong at) = IsFirst p at rule.TooLong
-IsRefused p (error.TooMany at) = IsFirst p at rule.TooMany
-IsRefused p error.NoMain = KeepsRules p × (has_main p.items ≡ false)
-IsRefused p error.OutOfMemory = Unit {0}
+abbrev pub IsRefusedByTypes : Program → TypeError → Type 0
+IsRefusedByTypes p (error.Unknown at) = IsFirst p at rule.Unknown
+IsRefusedByTypes p (error.Twice at) = IsFirst p at rule.Twice
+IsRefusedByTypes p (error.Recursive at) = IsFirst p at rule.Recursive
+IsRefusedByTypes p (error.Class at) = IsFirst p at rule.Class
+IsRefusedByTypes p (error.Shape at) = IsFirst p at rule.Shape
+IsRefusedByTypes p (error.Arity at) = IsFirst p at rule.Arity
+IsRefusedByTypes p (error.TooLong at) = IsFirst p at rule.TooLong
+IsRefusedByTypes p (error.TooMany at) = IsFirst p at rule.TooMany
+IsRefusedByTypes p error.NoMain = KeepsRules p × (has_main p.items ≡ false)
+IsRefusedByTypes p error.OutOfMemory = Unit {0}

@@ -1,8 +1,5 @@
-pub mod Scopes
 pub mod Sites
-pub mod Rules
+pub mod TypingRules
 pub mod Verdicts
-pub mod Kept
 pub mod Walks
 pub mod Checked
-pub mod Findings

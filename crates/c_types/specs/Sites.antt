@@ -1,7 +1,6 @@
--- The sites of a program: its places at which a typing rule may be broken, in the order of the source, each with
--- what is known there. A declaration is known from behind it to the end of its scope.
+-- Promise: the sites of a program: its places at which a typing rule may be broken, in the order of the source, each with
+-- what is known there. A declaration is known from after it to the end of its scope.
 use Rattle.std.specs.Prelude.{◌≡◌, ℕ, ◌+◌, ◌-◌, Bool, true, false, List, [], ◌∷◌, ◌++◌, length, Option, Some, None, is_some}
-use Rattle.arrayvec.specs.ArrayString.{ArrayString}
 use Rattle.regions.specs.declared.rights.Class.{Class}
 use Rattle.regions.specs.declared.rights.Class.TheVariants as class
 use Rattle.c_grammar.specs.declared.expr.Expr.{Expr}
@@ -17,18 +16,19 @@ use Rattle.c_grammar.specs.declared.item.Parameter.{Parameter}
 use Rattle.c_grammar.specs.declared.item.Item.{Item}
 use Rattle.c_grammar.specs.declared.item.Item.TheVariants as item
 use Rattle.c_grammar.specs.declared.item.Program.{Program}
-use Rattle.c_types.specs.declared.declaration.Declaration.{Declaration}
-use Rattle.c_types.specs.declared.declaration.Entity.{Entity}
-use Rattle.c_types.specs.declared.declaration.Entity.TheVariants.{Local, Object, Function}
+use Rattle.c_scopes.specs.declared.declaration.Declaration.{Declaration}
+use Rattle.c_scopes.specs.declared.declaration.Entity.{Entity}
+use Rattle.c_scopes.specs.declared.declaration.Entity.TheVariants.{Local, Object, Function}
+use Rattle.c_scopes.specs.Declarations.{local, name_of, token_of, declaration_of, declarations_of, parameter, parameters_of}
 use Rattle.c_types.specs.declared.site.Home.{Home}
 use Rattle.c_types.specs.declared.site.How.{How}
 use Rattle.c_types.specs.declared.site.How.TheVariants.{Value, Element, Assign, AssignElement, Call, CallValue}
 use Rattle.c_types.specs.declared.site.Site.{Site}
 use Rattle.c_types.specs.declared.site.Site.TheVariants as site
-use Rattle.c_types.specs.Scopes.{latest, declares, Scope, is_again}
+use Rattle.c_scopes.specs.Scopes.{latest, declares, Scope, is_again}
 
 -- a use of a name where these are known
-abbrev pub use_of : How → List Declaration → Home → ArrayString → ℕ → Site
+abbrev pub use_of : How → List Declaration → Home → List ℕ → ℕ → Site
 use_of how known home name at = site.Use how (latest known name) home at
 
 -- the sites of an expression, where these are known
@@ -73,8 +73,8 @@ pub record Place : Type 0 where
   pub in_loop : Bool
 
 -- the same place, once these are declared in its scope
-abbrev pub behind : List Declaration → Place → Place
-behind ds place = record place { scope = record { known = place.scope.known ++ ds; start = place.scope.start } }
+abbrev pub place_after : List Declaration → Place → Place
+place_after ds place = record place { scope = record { known = place.scope.known ++ ds; start = place.scope.start } }
 
 -- a new scope at a place
 abbrev pub inside : Place → Place
@@ -90,22 +90,18 @@ pub record StmtSites : Type 0 where
   pub sites : Place → List Site
 
 -- a statement that declares nothing in its scope
-abbrev pub plain : (Place → List Site) → StmtSites
-plain sites = record { declared = []; sites = sites }
+abbrev pub only_sites : (Place → List Site) → StmtSites
+only_sites sites = record { declared = []; sites = sites }
 
 -- a part that need not be there
-abbrev pub optional : Option StmtSites → StmtSites
-optional None = plain (λ place. [])
-optional (Some s) = s
+abbrev pub sites_if_any : Option StmtSites → StmtSites
+sites_if_any None = only_sites (λ place. [])
+sites_if_any (Some s) = s
 
--- one after the other: what one declares is known to those behind it
+-- one after the other: what one declares is known to those after it
 abbrev pub stmts_in_turn : List StmtSites → Place → List Site
 stmts_in_turn [] place = []
-stmts_in_turn (s ∷ ss) place = s.sites place ++ stmts_in_turn ss (behind s.declared place)
-
--- a local, which is not known in its own value
-abbrev pub local : Bool → ArrayString → ℕ → Declaration
-local unsigned name token = record { name = name; binding = record { token = token; entity = Local unsigned } }
+stmts_in_turn (s ∷ ss) place = s.sites place ++ stmts_in_turn ss (place_after s.declared place)
 
 -- a name that is assigned to
 abbrev pub assign : Option Expr → How
@@ -114,32 +110,32 @@ assign (Some index) = AssignElement
 
 -- Each part of an `if` or of a loop is a scope of its own, and a `for` is one around its parts.
 abbrev pub stmt_step : Stmt-F StmtSites → StmtSites
-stmt_step (Stmt-F.Block body token) = plain (λ place. stmts_in_turn body (inside place))
-stmt_step (Stmt-F.Empty token) = plain (λ place. [])
+stmt_step (Stmt-F.Block body token) = only_sites (λ place. stmts_in_turn body (inside place))
+stmt_step (Stmt-F.Empty token) = only_sites (λ place. [])
 stmt_step (Stmt-F.Local unsigned name value token) = record {
   declared = local unsigned name token ∷ [];
   sites = λ place. site.Local (is_again place.scope name) token ∷ part_sites value place.scope.known place.home;
 }
-stmt_step (Stmt-F.Assign name index value token) = plain (λ place.
+stmt_step (Stmt-F.Assign name index value token) = only_sites (λ place.
     use_of (assign index) place.scope.known place.home name token
     ∷ (part_sites index place.scope.known place.home ++ expr_sites value place.scope.known place.home))
-stmt_step (Stmt-F.Call name arguments token) = plain (λ place.
+stmt_step (Stmt-F.Call name arguments token) = only_sites (λ place.
     use_of (Call (length arguments)) place.scope.known place.home name token
     ∷ list_sites arguments place.scope.known place.home)
-stmt_step (Stmt-F.Release value token) = plain (λ place. expr_sites value place.scope.known place.home)
-stmt_step (Stmt-F.Check token) = plain (λ place. [])
-stmt_step (Stmt-F.Return value token) = plain (λ place.
+stmt_step (Stmt-F.Release value token) = only_sites (λ place. expr_sites value place.scope.known place.home)
+stmt_step (Stmt-F.Check token) = only_sites (λ place. [])
+stmt_step (Stmt-F.Return value token) = only_sites (λ place.
     site.Return place.home.result (is_some value) token ∷ part_sites value place.scope.known place.home)
-stmt_step (Stmt-F.Break token) = plain (λ place. site.Jump place.in_loop token ∷ [])
-stmt_step (Stmt-F.Continue token) = plain (λ place. site.Jump place.in_loop token ∷ [])
-stmt_step (Stmt-F.If test body other token) = plain (λ place.
-    expr_sites test place.scope.known place.home ++ body.sites (inside place) ++ (optional other).sites (inside place))
-stmt_step (Stmt-F.While test body token) = plain (λ place.
+stmt_step (Stmt-F.Break token) = only_sites (λ place. site.Jump place.in_loop token ∷ [])
+stmt_step (Stmt-F.Continue token) = only_sites (λ place. site.Jump place.in_loop token ∷ [])
+stmt_step (Stmt-F.If test body other token) = only_sites (λ place.
+    expr_sites test place.scope.known place.home ++ body.sites (inside place) ++ (sites_if_any other).sites (inside place))
+stmt_step (Stmt-F.While test body token) = only_sites (λ place.
     expr_sites test place.scope.known place.home ++ body.sites (looped place))
-stmt_step (Stmt-F.For first test step body token) = plain (λ place.
-    let around = behind (optional first).declared (inside place) in
-    (optional first).sites (inside place)
-    ++ (part_sites test around.scope.known around.home ++ (optional step).sites (inside around) ++ body.sites (looped around)))
+stmt_step (Stmt-F.For first test step body token) = only_sites (λ place.
+    let around = place_after (sites_if_any first).declared (inside place) in
+    (sites_if_any first).sites (inside place)
+    ++ (part_sites test around.scope.known around.home ++ (sites_if_any step).sites (inside around) ++ body.sites (looped around)))
 
 -- what a statement declares in its scope, and its sites
 abbrev pub stmt_sites : Stmt → StmtSites
@@ -147,75 +143,29 @@ stmt_sites = fold-Stmt StmtSites stmt_step
 
 -- the same of a statement that need not be there
 abbrev pub branch_sites : Option Stmt → StmtSites
-branch_sites None = plain (λ place. [])
+branch_sites None = only_sites (λ place. [])
 branch_sites (Some s) = stmt_sites s
 
 -- the sites of statements, one after the other
 abbrev pub body_sites : List Stmt → Place → List Site
 body_sites [] place = []
-body_sites (s ∷ ss) place = (stmt_sites s).sites place ++ body_sites ss (behind (stmt_sites s).declared place)
+body_sites (s ∷ ss) place = (stmt_sites s).sites place ++ body_sites ss (place_after (stmt_sites s).declared place)
 
--- the class of a kept object
-abbrev pub class_of : Storage → Class
-class_of Verified = class.Verified
-class_of Private = class.Private
-class_of Shared = class.Open
-class_of Logged = class.Logged
-
--- what an item stands for
-abbrev pub entity_of : Item → Entity
-entity_of (item.Object storage unsigned name length token) = Object (class_of storage) unsigned length
-entity_of (item.Constant unsigned name length values braces token) = Object class.Constant unsigned length
-entity_of (item.Untrusted name token) = Function Void true 0
-entity_of (item.Function private result name parameters body token) = Function result false (length parameters)
-
--- the name of an item
-abbrev pub name_of : Item → ArrayString
-name_of (item.Object storage unsigned name length token) = name
-name_of (item.Constant unsigned name length values braces token) = name
-name_of (item.Untrusted name token) = name
-name_of (item.Function private result name parameters body token) = name
-
--- the token of the name of an item
-abbrev pub token_of : Item → ℕ
-token_of (item.Object storage unsigned name length token) = token
-token_of (item.Constant unsigned name length values braces token) = token
-token_of (item.Untrusted name token) = token
-token_of (item.Function private result name parameters body token) = token
-
--- what an item declares
-abbrev pub declaration_of : Item → Declaration
-declaration_of item = record { name = name_of item; binding = record { token = token_of item; entity = entity_of item } }
-
--- what items declare
-abbrev pub declarations_of : List Item → List Declaration
-declarations_of [] = []
-declarations_of (item ∷ items) = declaration_of item ∷ declarations_of items
-
--- the length of an array stands behind its name and the sign `[`
+-- the length of an array stands after its name and the sign `[`
 abbrev pub length_sites : Option ℕ → ℕ → List Site
 length_sites None token = []
 length_sites (Some length) token = site.Length length (token + 2) ∷ []
-
--- a parameter, which is declared as a local is
-abbrev pub parameter : Parameter → Declaration
-parameter p = local p.unsigned p.name p.token
-
--- what parameters declare
-abbrev pub parameters_of : List Parameter → List Declaration
-parameters_of [] = []
-parameters_of (p ∷ ps) = parameter p ∷ parameters_of ps
 
 -- the sites of parameters, the first of which has so many before it
 abbrev pub parameter_sites : ℕ → List Parameter → Place → List Site
 parameter_sites number [] place = []
 parameter_sites number (p ∷ ps) place =
-    site.Parameter number (is_again place.scope p.name) p.token ∷ parameter_sites (number + 1) ps (behind (parameter p ∷ []) place)
+    site.Parameter number (is_again place.scope p.name) p.token ∷ parameter_sites (number + 1) ps (place_after (parameter p ∷ []) place)
 
 -- Parameters and the outermost block of the body are one scope.
 abbrev pub function_sites : List Parameter → List Stmt → Place → List Site
 function_sites parameters body place =
-    parameter_sites 0 parameters place ++ body_sites body (behind (parameters_of parameters) place)
+    parameter_sites 0 parameters place ++ body_sites body (place_after (parameters_of parameters) place)
 
 -- a new scope in a function, where these are known
 abbrev pub in_function : List Declaration → Home → Place
@@ -235,11 +185,11 @@ abbrev pub global_sites : ℕ → List Declaration → Item → List Site
 global_sites number known item =
     site.Global number (declares known (name_of item)) (token_of item) ∷ inner_sites (known ++ declaration_of item ∷ []) item
 
--- the sites of an item behind others
+-- the sites of an item after others
 abbrev pub item_sites : List Item → Item → List Site
 item_sites before item = global_sites (length before) (declarations_of before) item
 
 -- an item of a program, and the items before it
 pub record Follows (p : Program) (before : List Item) (item : Item) : Type 0 where
-  pub behind : List Item
-  pub all : p.items ≡ before ++ item ∷ behind
+  pub after : List Item
+  pub all : p.items ≡ before ++ item ∷ after

@@ -1,11 +1,11 @@
--- What a walk over sites in a row finds: the first violation, and how many locals and parameters the function has so
--- far. It is for the walk's own functions; what it finds is a program's first violation.
+-- Device: what a walk over sites in a row finds: the first violation, and how many locals and parameters the function has
+-- so far.
 use Rattle.std.specs.Prelude.{ℕ, ◌+◌, ◌==◌, nat_lt, Bool, false, not, ◌&&◌, ◌||◌, List, [], ◌∷◌, Option, Some, None, if◌then◌else◌}
 use Rattle.c_grammar.specs.declared.item.Kind3.{Kind3}
 use Rattle.aegis_num.specs.declared.limits.TheConstants.{MAX_GLOBALS, MAX_LOCALS, MAX_PARAMETERS, MAX_ARRAY_LENGTH}
-use Rattle.c_types.specs.declared.declaration.Binding.{Binding}
-use Rattle.c_types.specs.declared.declaration.Entity.{Entity}
-use Rattle.c_types.specs.declared.declaration.Entity.TheVariants.{Local, Object, Function}
+use Rattle.c_scopes.specs.declared.declaration.Binding.{Binding}
+use Rattle.c_scopes.specs.declared.declaration.Entity.{Entity}
+use Rattle.c_scopes.specs.declared.declaration.Entity.TheVariants.{Local, Object, Function}
 use Rattle.c_types.specs.declared.site.Home.{Home}
 use Rattle.c_types.specs.declared.site.How.{How}
 use Rattle.c_types.specs.declared.site.How.TheVariants.{Value, Element, Assign, AssignElement, Call, CallValue}
@@ -15,7 +15,7 @@ use Rattle.c_types.specs.declared.site.Site.{Site}
 use Rattle.c_types.specs.declared.site.Site.TheVariants as site
 use Rattle.c_types.specs.declared.verdict.Fault.{Fault}
 use Rattle.c_types.specs.declared.verdict.Verdict.{Verdict}
-use Rattle.c_types.specs.Rules.{is_call, is_assignment, is_function, is_array, is_scalar, is_constant, is_private, is_void, is_without_value, at_token, rank}
+use Rattle.c_types.specs.TypingRules.{is_call, is_assignment, is_function, is_array, is_scalar, is_constant, is_private, is_void, is_without_value, at_token, rule_order}
 
 -- a name of this kind is not used so
 abbrev pub misfits : How → Entity → Bool
@@ -93,20 +93,20 @@ site_rule locals (site.Constant length values braces at) = shape_rule (misgiven 
 abbrev pub one_more : ℕ → ℕ
 one_more locals = if nat_lt MAX_LOCALS locals then locals else locals + 1
 
--- how many locals and parameters there are behind a site
-abbrev pub locals_behind : ℕ → Site → ℕ
-locals_behind locals (site.Use how means home at) = locals
-locals_behind locals (site.Local again at) = one_more locals
-locals_behind locals (site.Parameter number again at) = one_more locals
-locals_behind locals (site.Return result value at) = locals
-locals_behind locals (site.Jump in_loop at) = locals
-locals_behind locals (site.Global number again at) = locals
-locals_behind locals (site.Length length at) = locals
-locals_behind locals (site.Constant length values braces at) = locals
+-- how many locals and parameters there are after a site
+abbrev pub locals_after : ℕ → Site → ℕ
+locals_after locals (site.Use how means home at) = locals
+locals_after locals (site.Local again at) = one_more locals
+locals_after locals (site.Parameter number again at) = one_more locals
+locals_after locals (site.Return result value at) = locals
+locals_after locals (site.Jump in_loop at) = locals
+locals_after locals (site.Global number again at) = locals
+locals_after locals (site.Length length at) = locals
+locals_after locals (site.Constant length values braces at) = locals
 
 -- whether a violation comes before another
 abbrev pub is_sooner : Fault → Fault → Bool
-is_sooner f g = nat_lt f.at g.at || (f.at == g.at && nat_lt (rank f.rule) (rank g.rule))
+is_sooner f g = nat_lt f.at g.at || (f.at == g.at && nat_lt (rule_order f.rule) (rule_order g.rule))
 
 -- the sooner of the two
 abbrev pub sooner : Option Fault → Fault → Option Fault
@@ -122,7 +122,7 @@ with_rule first at (Some rule) = sooner first (record { at = at; rule = rule })
 unfoldable pub note : Verdict → Site → Verdict
 note v s = record {
   first = with_rule v.first (at_token s) (site_rule v.locals s);
-  locals = locals_behind v.locals s;
+  locals = locals_after v.locals s;
 }
 
 -- what is found once sites in a row are gone past

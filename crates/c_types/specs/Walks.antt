@@ -1,16 +1,18 @@
--- Where a walk over a program stands. It is for the walk's own functions.
-use Rattle.std.specs.Prelude.{ℕ, ◌+◌, ◌<◌, ◌^◌, List, [], ◌∷◌, ◌++◌}
+-- Device: where a walk over a program stands, and what a walk over its items finds.
+use Rattle.std.specs.Prelude.{ℕ, ◌+◌, ◌<◌, ◌^◌, List, [], ◌∷◌, ◌++◌, Option, None}
 use Rattle.c_grammar.specs.declared.item.Item.{Item}
+use Rattle.c_types.specs.declared.verdict.Fault.{Fault}
 use Rattle.c_types.specs.declared.verdict.Verdict.{Verdict}
 use Rattle.c_grammar.specs.declared.stmt.Stmt.{Stmt}
-use Rattle.c_types.specs.declared.declaration.Declaration.{Declaration}
+use Rattle.c_scopes.specs.declared.declaration.Declaration.{Declaration}
 use Rattle.c_types.specs.declared.statements.Context.{Context}
 use Rattle.c_types.specs.Verdicts.{noted, afresh}
-use Rattle.c_types.specs.Sites.{Place, stmt_sites, declaration_of, token_of, global_sites}
+use Rattle.c_scopes.specs.Declarations.{declaration_of, token_of}
+use Rattle.c_types.specs.Sites.{Place, stmt_sites, global_sites}
 
 -- the place where these declarations are known
-abbrev pub placed : List Declaration → Context → Place
-placed known context = record {
+abbrev pub place_of : List Declaration → Context → Place
+place_of known context = record {
   scope = record { known = known; start = context.start };
   home = context.home;
   in_loop = context.in_loop;
@@ -27,6 +29,14 @@ items_noted number known [] v = v
 items_noted number known (item ∷ items) v =
     items_noted (number + 1) (known ++ declaration_of item ∷ []) items (noted (afresh v) (global_sites number known item))
 
--- the number of the token behind the sign `[` that may follow the name is one
+-- before any site
+abbrev pub start : Verdict
+start = record { first = None; locals = 0 }
+
+-- the first violation of items
+abbrev pub first_of : List Item → Option Fault
+first_of items = (items_noted 0 [] items start).first
+
+-- the number of the token after the sign `[` that may follow the name is one
 abbrev pub HasRoom : Item → Type 0
 HasRoom item = token_of item + 2 < 2 ^ 32

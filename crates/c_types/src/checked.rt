@@ -132,25 +132,27 @@ impl Model for Checked {
 
     ghost coded = { Prim.hlevel (codes, statement.the_row.coded) };
 
-    ghost use Rattle.c_types.specs.Checked.{IsTyped, objects_of, functions_of};
+    ghost use Rattle.c_types.specs.Checked.{IsReadProgram, IsTyped, listed_objects, listed_functions};
 
     ghost view = { λ checked. checked.program };
 
     ghost invariant = { λ checked. record {
+      read : IsReadProgram checked.program;
       typed : IsTyped checked.program;
-      objects : checked.objects ≡ objects_of checked.program.items;
-      functions : checked.functions ≡ functions_of checked.program.items;
+      objects : checked.objects ≡ listed_objects checked.program.items;
+      functions : checked.functions ≡ listed_functions checked.program.items;
     } };
 }
 
 impl Checked {
     ghost use Rattle.std.specs.Prelude.{◌≡◌};
-    ghost use Rattle.c_types.specs.Checked.{IsTyped, objects_of, functions_of};
+    ghost use Rattle.c_types.specs.Checked.{IsReadProgram, IsTyped, listed_objects, listed_functions};
 
-    /// The program. It keeps the typing rules, and has a function `main` that answers int, takes nothing and is not
+    /// The program. It was read from tokens, keeps the typing rules, and has a function `main` that answers int, takes nothing and is not
     /// private.
     pub fn program(&self) -> &Program
         ensures program { result.now ≡ self.now }
+        ensures read { IsReadProgram self.now }
         ensures typed { IsTyped self.now }
     {
         &self.program
@@ -158,14 +160,14 @@ impl Checked {
 
     /// The global variables and constants, in the order of the source.
     pub fn objects(&self) -> &[Object]
-        ensures { result.now ≡ objects_of self.now.items }
+        ensures { result.now ≡ listed_objects self.now.items }
     {
         self.objects.as_slice()
     }
 
     /// The functions, in the order of the source.
     pub fn functions(&self) -> &[Function]
-        ensures { result.now ≡ functions_of self.now.items }
+        ensures { result.now ≡ listed_functions self.now.items }
     {
         self.functions.as_slice()
     }

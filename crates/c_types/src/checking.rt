@@ -3,13 +3,13 @@ ghost use Rattle.std.specs.Prelude.{◌≡◌, ◌++◌, ◌^◌, ◌<◌, ◌+�
 ghost use Rattle.std.specs.List.{list_any};
 ghost use Rattle.c_types.specs.declared.error.TypeError.TheVariants as error;
 ghost use Rattle.c_types.specs.Walks.{HasRoom};
-ghost use Rattle.c_types.specs.Checked.{IsRead, IsTyped, IsRefused, is_int, is_main, has_main, object_of, objects_of, function_of, functions_of, HasFewParameters, error_at};
-ghost use Rattle.c_types.specs.Findings.{first_of};
+ghost use Rattle.c_types.specs.Checked.{IsReadProgram, IsTyped, IsRefusedByTypes, is_int, is_main, has_main, listed_object, listed_objects, listed_function, listed_functions, HasFewParameters, error_at};
+ghost use Rattle.c_types.specs.Walks.{first_of};
 
 use crate::checked::{Checked, Function, Functions, Object, Objects};
 use crate::error::TypeError;
-use crate::items::{class_of, globals};
-use crate::names::Names;
+use crate::items::globals;
+use c_scopes::{Names, class_of};
 use crate::site::Rule;
 use crate::verdict::{Fault, Verdict};
 use aegis_num::OutOfMemory;
@@ -18,8 +18,8 @@ use regions::Class;
 use std::alloc::Global;
 
 /// An object or a constant.
-fn object_of(item: &Item) -> Option<Object>
-    ensures { result ≡ object_of item.now }
+fn listed_object(item: &Item) -> Option<Object>
+    ensures { result ≡ listed_object item.now }
 {
     match item {
         Item::Object {
@@ -51,11 +51,11 @@ fn object_of(item: &Item) -> Option<Object>
 
 /// The objects and constants of items, in order.
 fn objects(alloc: Global, items: &[Item]) -> Result<Objects, OutOfMemory>
-    ensures { IfOk result (λ objects. objects ≡ objects_of items.now) }
+    ensures { IfOk result (λ objects. objects ≡ listed_objects items.now) }
 {
     let mut all = Vec::new(alloc);
     for item in items {
-        if let Some(object) = object_of(item) {
+        if let Some(object) = listed_object(item) {
             all.push(object)?;
         }
     }
@@ -63,9 +63,9 @@ fn objects(alloc: Global, items: &[Item]) -> Result<Objects, OutOfMemory>
 }
 
 /// A function.
-fn function_of(item: &Item) -> Option<Function>
+fn listed_function(item: &Item) -> Option<Function>
     requires { HasFewParameters item.now }
-    ensures { result ≡ function_of item.now }
+    ensures { result ≡ listed_function item.now }
 {
     match item {
         Item::Untrusted { name, .. } => Some(Function {
@@ -95,11 +95,11 @@ fn function_of(item: &Item) -> Option<Function>
 /// The functions of items, in order.
 fn functions(alloc: Global, items: &[Item]) -> Result<Functions, OutOfMemory>
     requires { All HasFewParameters items.now }
-    ensures { IfOk result (λ functions. functions ≡ functions_of items.now) }
+    ensures { IfOk result (λ functions. functions ≡ listed_functions items.now) }
 {
     let mut all = Vec::new(alloc);
     for item in items {
-        if let Some(function) = function_of(item) {
+        if let Some(function) = listed_function(item) {
             all.push(function)?;
         }
     }
@@ -118,7 +118,7 @@ fn is_main(item: &Item) -> bool
             params,
             ..
         } => {
-            name.as_str() == "main"
+            name.as_bytes() == b"main".as_slice()
                 && matches!(result, Kind3::Int)
                 && params.len() == 0
                 && !*private
@@ -169,7 +169,7 @@ fn first_fault(alloc: Global, items: &[Item]) -> Result<Option<Fault>, OutOfMemo
 fn judged(alloc: Global, p: &Program) -> Result<(), TypeError>
     requires { All HasRoom p.now.items }
     ensures typed { OnOk result (IsTyped p.now) }
-    ensures refused { IfErr result (IsRefused p.now) }
+    ensures refused { IfErr result (IsRefusedByTypes p.now) }
     ensures accepted { IsTyped p.now → IfErr result (λ e. e ≡ error.OutOfMemory) }
 {
     match first_fault(alloc, p.items.as_slice())? {
@@ -183,12 +183,18 @@ fn judged(alloc: Global, p: &Program) -> Result<(), TypeError>
     }
 }
 
-/// Tests a program whose token numbers stay in their range.
-pub fn checked(alloc: Global, p: Program) -> Result<Checked, TypeError>
-    requires { All HasRoom p.items }
+/// Tests a program by the typing rules. The answer is the program with its objects and functions where no rule is
+/// broken and there is a function `main` that answers int, takes nothing and is not private.
+///
+/// # Errors
+///
+/// The violation with the least token, and of several at one token the one that stands first in [`TypeError`];
+/// `NoMain` where there is no other violation and no such `main`; `OutOfMemory`. The program is then given up.
+pub fn check(alloc: Global, p: Program) -> Result<Checked, TypeError>
+    requires { IsReadProgram p }
     ensures program { IfOk result (λ checked. checked ≡ p) }
     ensures typed { OnOk result (IsTyped p) }
-    ensures refused { IfErr result (IsRefused p) }
+    ensures refused { IfErr result (IsRefusedByTypes p) }
     ensures accepted { IsTyped p → IfErr result (λ e. e ≡ error.OutOfMemory) }
 {
     judged(alloc, &p)?;
@@ -199,21 +205,4 @@ pub fn checked(alloc: Global, p: Program) -> Result<Checked, TypeError>
         objects,
         functions,
     })
-}
-
-/// Tests a program by the typing rules. The answer is the program with its objects and functions where no rule is
-/// broken and there is a function `main` that answers int, takes nothing and is not private.
-///
-/// # Errors
-///
-/// The violation with the least token, and of several at one token the one that stands first in [`TypeError`];
-/// `NoMain` where there is no other violation and no such `main`; `OutOfMemory`. The program is then given up.
-pub fn check(alloc: Global, p: Program) -> Result<Checked, TypeError>
-    requires { IsRead p }
-    ensures program { IfOk result (λ checked. checked ≡ p) }
-    ensures typed { OnOk result (IsTyped p) }
-    ensures refused { IfErr result (IsRefused p) }
-    ensures accepted { IsTyped p → IfErr result (λ e. e ≡ error.OutOfMemory) }
-{
-    checked(alloc, p)
 }

@@ -3,7 +3,7 @@ ghost use Rattle.std.specs.Prelude.{◌≡◌};
 ghost use Rattle.c_types.specs.Sites.{use_of, expr_sites, part_sites, list_sites};
 ghost use Rattle.c_types.specs.Verdicts.{note, noted};
 
-use crate::names::Names;
+use c_scopes::Names;
 use crate::site::{Home, How, Site};
 use crate::verdict::Verdict;
 use aegis_num::Name;

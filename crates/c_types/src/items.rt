@@ -1,103 +1,16 @@
 //! The sites of items.
 ghost use Rattle.std.specs.Prelude.{◌≡◌, ◌+◌, ◌<◌, ◌^◌, [], ◌∷◌, ◌++◌, All, OnOk};
-ghost use Rattle.c_types.specs.Sites.{class_of, entity_of, name_of, token_of, declaration_of, length_sites, parameters_of, parameter_sites, function_sites, inner_sites, global_sites};
+ghost use Rattle.c_scopes.specs.Declarations.{token_of, declaration_of, parameters_of};
+ghost use Rattle.c_types.specs.Sites.{length_sites, parameter_sites, function_sites, inner_sites, global_sites};
 ghost use Rattle.c_types.specs.Verdicts.{noted, afresh};
-ghost use Rattle.c_types.specs.Walks.{placed, declared_in, items_noted, HasRoom};
+ghost use Rattle.c_types.specs.Walks.{place_of, declared_in, items_noted, HasRoom};
 
-use crate::declaration::{Binding, Declaration, Entity};
-use crate::names::Names;
+use c_scopes::{Names, declaration_of, local, name_of, token_of};
 use crate::site::{Home, Site};
-use crate::statements::{Context, declare, statements};
+use crate::statements::{Context, statements};
 use crate::verdict::Verdict;
-use aegis_num::{Name, OutOfMemory};
-use c_grammar::{Item, Kind3, Parameter, Stmt, Storage};
-use regions::Class;
-
-/// The class of a kept object.
-pub fn class_of(storage: Storage) -> Class
-    ensures { result ≡ class_of storage }
-{
-    match storage {
-        Storage::Verified => Class::Verified,
-        Storage::Private => Class::Private,
-        Storage::Shared => Class::Open,
-        Storage::Logged => Class::Logged,
-    }
-}
-
-/// What an item stands for.
-fn entity_of(item: &Item) -> Entity
-    ensures { result ≡ entity_of item.now }
-{
-    match item {
-        Item::Object {
-            class,
-            unsigned,
-            length,
-            ..
-        } => Entity::Object {
-            class: class_of(*class),
-            unsigned: *unsigned,
-            length: *length,
-        },
-        Item::Constant {
-            unsigned,
-            length,
-            ..
-        } => Entity::Object {
-            class: Class::Constant,
-            unsigned: *unsigned,
-            length: *length,
-        },
-        Item::Untrusted { .. } => Entity::Function {
-            result: Kind3::Void,
-            untrusted: true,
-            parameters: 0,
-        },
-        Item::Function { result, params, .. } => Entity::Function {
-            result: *result,
-            untrusted: false,
-            parameters: params.len(),
-        },
-    }
-}
-
-/// The name of an item.
-pub fn name_of(item: &Item) -> &Name
-    ensures { result.now ≡ name_of item.now }
-{
-    match item {
-        Item::Object { name, .. }
-        | Item::Constant { name, .. }
-        | Item::Untrusted { name, .. }
-        | Item::Function { name, .. } => name,
-    }
-}
-
-/// The token of the name of an item.
-pub fn token_of(item: &Item) -> u32
-    ensures { result ≡ token_of item.now }
-{
-    match item {
-        Item::Object { token, .. }
-        | Item::Constant { token, .. }
-        | Item::Untrusted { token, .. }
-        | Item::Function { token, .. } => *token,
-    }
-}
-
-/// What an item declares.
-fn declaration_of(item: &Item) -> Declaration
-    ensures { result ≡ declaration_of item.now }
-{
-    Declaration {
-        name: *name_of(item),
-        binding: Binding {
-            token: token_of(item),
-            entity: entity_of(item),
-        },
-    }
-}
+use aegis_num::OutOfMemory;
+use c_grammar::{Item, Parameter, Stmt};
 
 /// Goes past the length of an array.
 fn length(length: Option<u32>, token: u32, verdict: &mut Verdict)
@@ -122,7 +35,7 @@ fn parameters(
 ) -> Result<(), OutOfMemory>
     ensures declared { OnOk result (names.new ≡ names.old ++ parameters_of all.now) }
     ensures sites { OnOk result (verdict.new ≡ noted verdict.old
-        (parameter_sites 0 all.now (placed names.old context))) }
+        (parameter_sites 0 all.now (place_of names.old context))) }
 {
     for (number, p) in all.iter().enumerate() {
         let again = names.is_declared_from(context.start, &p.name);
@@ -131,7 +44,7 @@ fn parameters(
             again,
             token: p.token,
         });
-        declare(names, p.unsigned, &p.name, p.token)?;
+        names.declare(local(p.unsigned, &p.name, p.token))?;
     }
     Ok(())
 }
@@ -148,7 +61,7 @@ fn function(
     ensures declared { OnOk result (names.new ≡ names.old
         ++ parameters_of params.now ++ declared_in body.now) }
     ensures sites { OnOk result (verdict.new ≡ noted verdict.old
-        (function_sites params.now body.now (placed names.old context))) }
+        (function_sites params.now body.now (place_of names.old context))) }
 {
     parameters(names, context, params, verdict)?;
     statements(names, context, body, verdict)?;

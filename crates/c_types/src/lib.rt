@@ -4,20 +4,14 @@
 
 mod checked;
 mod checking;
-mod declaration;
 mod error;
 mod expressions;
 mod items;
-pub mod names;
 mod site;
 mod statements;
 mod verdict;
 
 pub use checked::{Checked, Function, Functions, Object, Objects};
 pub use checking::check;
-pub use declaration::{Binding, Declaration, Entity};
 pub use error::TypeError;
 pub use site::{Home, How, Rule, Site};
-
-#[cfg(test)]
-mod tests;

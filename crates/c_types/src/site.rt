@@ -1,5 +1,5 @@
 //! The places of a program at which a typing rule may be broken.
-use crate::declaration::Binding;
+use c_scopes::Binding;
 use c_grammar::Kind3;
 
 /// The typing rules. Of several that are broken at one token the first here is answered.

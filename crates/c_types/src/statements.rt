@@ -1,14 +1,13 @@
 //! The sites of statements.
 ghost use Rattle.std.specs.Prelude.{◌≡◌, [], ◌∷◌, ◌++◌, length, OnOk, is_some};
 ghost use Rattle.c_types.specs.declared.site.Site.TheVariants as site;
-ghost use Rattle.c_types.specs.Scopes.{is_again};
-ghost use Rattle.c_types.specs.Sites.{use_of, assign, local, inside as inside_of, looped, behind, stmt_sites, branch_sites, body_sites, part_sites, list_sites, expr_sites};
+ghost use Rattle.c_scopes.specs.Scopes.{is_again};
+ghost use Rattle.c_types.specs.Sites.{use_of, assign, inside as inside_of, looped, place_after, stmt_sites, branch_sites, body_sites, part_sites, list_sites, expr_sites};
 ghost use Rattle.c_types.specs.Verdicts.{note, noted};
-ghost use Rattle.c_types.specs.Walks.{placed, declared_in};
+ghost use Rattle.c_types.specs.Walks.{place_of, declared_in};
 
-use crate::declaration::{Binding, Declaration, Entity};
 use crate::expressions::{expression, expressions, part, used};
-use crate::names::Names;
+use c_scopes::{Names, local};
 use crate::site::{Home, How, Site};
 use crate::verdict::Verdict;
 use aegis_num::{Name, OutOfMemory};
@@ -24,25 +23,6 @@ pub struct Context {
     pub home: Home,
     /// Whether it is inside a loop.
     pub in_loop: bool,
-}
-
-/// Declares a local.
-pub fn declare(
-    names: &mut Names,
-    unsigned: bool,
-    name: &Name,
-    token: u32,
-) -> Result<(), OutOfMemory>
-    ensures { OnOk result (names.new ≡ names.old ++ local unsigned name.now token ∷ []) }
-{
-    names.declare(Declaration {
-        name: *name,
-        binding: Binding {
-            token,
-            entity: Entity::Local { unsigned },
-        },
-    })?;
-    Ok(())
 }
 
 /// How a name is used that is assigned to.
@@ -85,7 +65,7 @@ fn declaration(
     verdict: &mut Verdict,
 )
     ensures { verdict.new ≡ noted verdict.old
-        (site.Local (is_again (placed names.now context).scope name.now) token
+        (site.Local (is_again (place_of names.now context).scope name.now) token
         ∷ part_sites value.now names.now context.home) }
 {
     let again = names.is_declared_from(context.start, name);
@@ -144,7 +124,7 @@ fn statement(
 ) -> Result<(), OutOfMemory>
     ensures declared { OnOk result (names.new ≡ names.old ++ (stmt_sites s.now).declared) }
     ensures sites { OnOk result (verdict.new ≡ noted verdict.old
-        ((stmt_sites s.now).sites (placed names.old context))) }
+        ((stmt_sites s.now).sites (place_of names.old context))) }
 {
     let home = context.home;
     match s {
@@ -157,7 +137,7 @@ fn statement(
         } => {
             let at = *token;
             declaration(names, context, name, value, at, verdict);
-            declare(names, *unsigned, name, at)?;
+            names.declare(local(*unsigned, name, at))?;
             Ok(())
         }
         Stmt::Assign {
@@ -245,7 +225,7 @@ fn repeated(
 ) -> Result<(), OutOfMemory>
     ensures declared { OnOk result (names.new ≡ names.old) }
     ensures sites { OnOk result (verdict.new ≡ noted verdict.old
-        ((stmt_sites body.now).sites (looped (placed names.old context)))) }
+        ((stmt_sites body.now).sites (looped (place_of names.old context)))) }
 {
     let looped = Context {
         in_loop: true,
@@ -265,7 +245,7 @@ pub fn statements(
 ) -> Result<(), OutOfMemory>
     ensures declared { OnOk result (names.new ≡ names.old ++ declared_in all.now) }
     ensures sites { OnOk result (verdict.new ≡ noted verdict.old
-        (body_sites all.now (placed names.old context))) }
+        (body_sites all.now (place_of names.old context))) }
 {
     for s in all {
         statement(names, context, s, verdict)?;
@@ -283,7 +263,7 @@ fn inside(
 ) -> Result<(), OutOfMemory>
     ensures declared { OnOk result (names.new ≡ names.old) }
     ensures sites { OnOk result (verdict.new ≡ noted verdict.old
-        ((stmt_sites s.now).sites (inside_of (placed names.old context)))) }
+        ((stmt_sites s.now).sites (inside_of (place_of names.old context)))) }
 {
     let start = names.len();
     statement(names, Context { start, ..context }, s, verdict)?;
@@ -301,7 +281,7 @@ fn branch_inside(
 ) -> Result<(), OutOfMemory>
     ensures declared { OnOk result (names.new ≡ names.old) }
     ensures sites { OnOk result (verdict.new ≡ noted verdict.old
-        ((branch_sites s.now).sites (inside_of (placed names.old context)))) }
+        ((branch_sites s.now).sites (inside_of (place_of names.old context)))) }
 {
     match s {
         None => Ok(()),
@@ -322,7 +302,7 @@ fn branch(
 ) -> Result<(), OutOfMemory>
     ensures declared { OnOk result (names.new ≡ names.old ++ (branch_sites s.now).declared) }
     ensures sites { OnOk result (verdict.new ≡ noted verdict.old
-        ((branch_sites s.now).sites (placed names.old context))) }
+        ((branch_sites s.now).sites (place_of names.old context))) }
 {
     match s {
         None => Ok(()),

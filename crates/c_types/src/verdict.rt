@@ -1,9 +1,9 @@
 //! What a walk over the sites of a program finds.
 ghost use Rattle.std.specs.Prelude.{◌≡◌, ◌==◌, ◌||◌, not};
-ghost use Rattle.c_types.specs.Rules.{is_call, is_whole, is_indexed, is_assignment, is_function, is_array, is_scalar, is_constant, is_private, is_void, is_without_value, at_token, rank};
+ghost use Rattle.c_types.specs.TypingRules.{is_call, is_whole, is_indexed, is_assignment, is_function, is_array, is_scalar, is_constant, is_private, is_void, is_without_value, at_token, rule_order};
 ghost use Rattle.c_types.specs.Verdicts as spec;
 
-use crate::declaration::{Binding, Entity};
+use c_scopes::{Binding, Entity};
 use crate::site::{Home, How, Rule, Site};
 use aegis_num::limits::{MAX_ARRAY_LENGTH, MAX_GLOBALS, MAX_LOCALS, MAX_PARAMETERS};
 use c_grammar::Kind3;
@@ -261,8 +261,8 @@ fn one_more(locals: usize) -> usize
     locals + 1
 }
 
-fn locals_behind(locals: usize, site: Site) -> usize
-    ensures { result ≡ spec.locals_behind locals site }
+fn locals_after(locals: usize, site: Site) -> usize
+    ensures { result ≡ spec.locals_after locals site }
 {
     match site {
         Site::Local { .. } | Site::Parameter { .. } => one_more(locals),
@@ -275,8 +275,8 @@ fn locals_behind(locals: usize, site: Site) -> usize
     }
 }
 
-fn rank(rule: Rule) -> u8
-    ensures { result ≡ rank rule }
+fn rule_order(rule: Rule) -> u8
+    ensures { result ≡ rule_order rule }
 {
     match rule {
         Rule::Unknown => 0,
@@ -293,7 +293,7 @@ fn rank(rule: Rule) -> u8
 fn is_sooner(fault: Fault, other: Fault) -> bool
     ensures { result ≡ spec.is_sooner fault other }
 {
-    fault.at < other.at || (fault.at == other.at && rank(fault.rule) < rank(other.rule))
+    fault.at < other.at || (fault.at == other.at && rule_order(fault.rule) < rule_order(other.rule))
 }
 
 fn sooner(first: Option<Fault>, fault: Fault) -> Option<Fault>
@@ -337,6 +337,6 @@ impl Verdict {
     {
         let rule = site_rule(self.locals, site);
         self.first = with_rule(self.first, at_token(site), rule);
-        self.locals = locals_behind(self.locals, site);
+        self.locals = locals_after(self.locals, site);
     }
 }

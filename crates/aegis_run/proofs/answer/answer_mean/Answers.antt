@@ -1,5 +1,5 @@
 use Rattle.std.proofs.Common.{refl}
-use Rattle.c_meaning.specs.Resolving.{program_in}
+use Rattle.c_resolver.specs.Resolving.{program_in}
 use Rattle.c_semantics.specs.Meaning.{Meaning, mean_alone}
 use Rattle.aegis_run.specs.Answer.{MeansFrom}
 use Rattle.aegis_run.specs.Words as asks

@@ -1,5 +1,5 @@
 use Rattle.std.proofs.Common.{◌≡◌, ◌∙◌, ap, sym, Some, None}
-use Rattle.c_types.specs.Findings.{first_of}
+use Rattle.c_types.specs.Walks.{first_of}
 use Rattle.c_types.specs.Checked.{has_main}
 use Rattle.c_types.proofs.Exact.{first_is, none_is}
 use Rattle.c_types.proofs.Answered.{refused_by}

@@ -1,13 +1,13 @@
 use Rattle.std.proofs.Common.{◌≡◌, ◌∙◌, ap, ◌+◌, ◌++◌, drop, refl}
-use Rattle.c_types.specs.Sites.{inside, behind, branch_sites}
-use Rattle.c_types.specs.Walks.{placed, declared_in}
+use Rattle.c_types.specs.Sites.{inside, place_after, branch_sites}
+use Rattle.c_types.specs.Walks.{place_of, declared_in}
 use Rattle.c_types.proofs.Noted.{behind_step, body_step, if_parts, while_parts, for_parts, for_names}
 use Rattle.c_types.proofs.statements.+statement.Goals as goal
 
 pub statement-returns-in_ok-branch_inside-in-If-clause-sites :
     goal.statement-returns-in_ok-branch_inside-in-If-clause-sites
 statement-returns-in_ok-branch_inside-in-If-clause-sites t c =
-    let place = placed c.args.names.now c.args.context in
+    let place = place_of c.args.names.now c.args.context in
     let third = rw c.in_ok-inside-in-If.ensures.declared at c.in_ok-branch_inside-in-If.ensures.sites in
     rw (c.in-If.is, ← c.get.ensures) (if_parts c.args.verdict.now c.expression-in-If.new.verdict c.inside.new.verdict c.branch_inside.new.verdict place c.in-If.test c.get.result.now c.in-If.other c.in-If.token
     c.expression-in-If.ensures c.in_ok-inside-in-If.ensures.sites third)
@@ -15,7 +15,7 @@ statement-returns-in_ok-branch_inside-in-If-clause-sites t c =
 pub statement-returns-in_ok-repeated-in-While-clause-sites :
     goal.statement-returns-in_ok-repeated-in-While-clause-sites
 statement-returns-in_ok-repeated-in-While-clause-sites t c =
-    let place = placed c.args.names.now c.args.context in
+    let place = place_of c.args.names.now c.args.context in
     rw (c.in-While.is, ← c.get-in-While.ensures) (while_parts c.args.verdict.now c.expression-in-While.new.verdict c.repeated.new.verdict place c.in-While.test c.get-in-While.result.now c.in-While.token
     c.expression-in-While.ensures c.in_ok-repeated-in-While.ensures.sites)
 
@@ -30,8 +30,8 @@ statement-returns-in_ok-forget-in-For-clause-declared t c =
 pub statement-returns-in_ok-forget-in-For-clause-sites :
     goal.statement-returns-in_ok-forget-in-For-clause-sites
 statement-returns-in_ok-forget-in-For-clause-sites t c =
-    let place = placed c.args.names.now c.args.context in
-    let around = behind (branch_sites c.in-For.first).declared (inside place) in
+    let place = place_of c.args.names.now c.args.context in
+    let around = place_after (branch_sites c.in-For.first).declared (inside place) in
     let first = rw c.len-in-For.ensures at c.in_ok-branch-in-For.ensures.sites in
     let test = rw c.in_ok-branch-in-For.ensures.declared at c.part.ensures in
     let step = rw c.in_ok-branch-in-For.ensures.declared at c.in_ok-branch_inside-in-For.ensures.sites in
@@ -46,6 +46,6 @@ statements-loop-s-preserved t c = record {
       ∙ behind_step c.loop-s.names c.args.all.now c.loop-s.s-index c.s-item.result c.loop-s-test.true c.s-item.is
       ∙ c.loop-s.invariant.declared;
   sites = rw (c.in_ok-statement.ensures.declared, c.in_ok-statement.ensures.sites)
-      (body_step c.loop-s.verdict c.args.all.now c.loop-s.s-index c.s-item.result (placed c.loop-s.names c.args.context) c.loop-s-test.true c.s-item.is
+      (body_step c.loop-s.verdict c.args.all.now c.loop-s.s-index c.s-item.result (place_of c.loop-s.names c.args.context) c.loop-s-test.true c.s-item.is
       ∙ c.loop-s.invariant.sites);
 }

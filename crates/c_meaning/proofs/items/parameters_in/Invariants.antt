@@ -1,9 +1,0 @@
-use Rattle.std.proofs.Common.{◌≡◌, ◌++◌, drop}
-use Rattle.c_types.specs.Sites.{parameters_of}
-use Rattle.c_meaning.specs.Resolving.{parameters_in}
-use Rattle.c_meaning.proofs.items.parameters_in.Given as goal
-
-abbrev pub invariant-loop-p : goal.invariant-loop-p
-invariant-loop-p l =
-    (parameters_in l.parameters ≡ l.own ++ parameters_in (drop l.p-index l.parameters))
-    × (l.initial.names ++ parameters_of l.parameters ≡ l.names ++ parameters_of (drop l.p-index l.parameters))
