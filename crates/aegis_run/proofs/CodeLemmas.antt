@@ -11,11 +11,12 @@ use Rattle.regions.specs.declared.Access.TheVariants.{Fetch}
 use Rattle.regions.specs.declared.Mode.TheVariants.{Ptr}
 use Rattle.regions.specs.declared.addresses.TheConstants.{TREE_START}
 use Rattle.orbis_core.specs.Effects.{effect_of}
-use Rattle.orbis_core.specs.FlatLaws.{bytes_of, fetch-code, length-bytes_of, word_at-static, words_in-bytes_of}
+use Rattle.orbis_core.specs.ByteOrder.{bytes_of}
+use Rattle.orbis_core.proofs.FlatLaws.{fetch-code, length-bytes_of, word_at-static, words_in-bytes_of}
 use Rattle.orbis_core.specs.FlatMemory.{Flat, flat_of, word_at}
 use Rattle.orbis_core.specs.Processor.{Processor, register}
 use Rattle.orbis_core.specs.Refusals.{answered, word_refusal}
-use Rattle.orbis_core.specs.Words.{words_in}
+use Rattle.orbis_core.specs.ByteOrder.{words_in}
 use Rattle.orbis_core.proofs.ProcessorLemmas.{register-with_register, register-with_register-other}
 use Rattle.std.specs.Int.Bits.{or_zero_l}
 use Rattle.aegis_num.specs.declared.limits.TheConstants.{MAX_SOURCE_BYTES}

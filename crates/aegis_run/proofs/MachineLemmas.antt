@@ -9,11 +9,11 @@ use Rattle.orbis_core.specs.declared.Effect.{Effect}
 use Rattle.orbis_core.specs.declared.Effect.TheVariants.{Proceed, Write, Compare, Jump, Link, LoadWord, LoadByte, StoreWord, StoreByte, DivideByZero, Secure}
 use Rattle.orbis_core.specs.Accesses.{Accesses}
 use Rattle.orbis_core.specs.Effects.{effect_of}
-use Rattle.orbis_core.specs.StepLaws.{Carries-fetched}
+use Rattle.orbis_core.proofs.StepLaws.{Carries-fetched}
 use Rattle.orbis_core.specs.declared.StepEnd.{StepEnd}
 use Rattle.orbis_core.specs.declared.StepEnd.TheVariants.{Next, Released, Exit}
 use Rattle.orbis_core.specs.FlatMemory.{Flat, flat_accesses, flat_of}
-use Rattle.orbis_core.specs.FlatLaws.{bytes_of}
+use Rattle.orbis_core.specs.ByteOrder.{bytes_of}
 use Rattle.regions.specs.declared.Layout.{Layout}
 use Rattle.orbis_core.specs.Processor.{Processor}
 use Rattle.orbis_core.specs.Rows.{Machine, Carries, Leaves, Steps}

@@ -17,9 +17,9 @@ use Rattle.orbis_core.specs.declared.Effect.TheVariants.{Write, Secure}
 use Rattle.orbis_core.specs.declared.StepEnd.{StepEnd}
 use Rattle.orbis_core.specs.declared.StepEnd.TheVariants.{Next, Released, Exit}
 use Rattle.orbis_core.specs.Effects.{effect_of}
-use Rattle.orbis_core.specs.FlatLaws.{bytes_of}
+use Rattle.orbis_core.specs.ByteOrder.{bytes_of}
 use Rattle.orbis_core.specs.FlatMemory.{Flat, flat_of, word_at}
-use Rattle.orbis_core.specs.Processor.{Processor, advanced, core_behind}
+use Rattle.orbis_core.specs.Processor.{Processor, advanced, core_after}
 use Rattle.orbis_core.specs.Refusals.{answered, word_refusal}
 use Rattle.orbis_core.specs.Secure.{secure_end, secure_of}
 
@@ -64,7 +64,7 @@ straight_end effect core = Next
 
 abbrev pub straight_core : Effect → Processor → Processor
 straight_core (Secure f) core = advanced core
-straight_core effect core = core_behind effect core
+straight_core effect core = core_after effect core
 
 -- the memory answers a fetch at the program counter by the word of this instruction
 pub record Fetches (memory : Flat) (core : Processor) (instruction : Instr) : Type 0 where

@@ -2,7 +2,7 @@
 //! sink at once.
 ghost use Rattle.std.specs.Prelude.{◌≡◌, ℕ, ◌*◌, ◌%◌, ◌≤◌, List, None, length, IfOk, OnErr};
 ghost use Rattle.aegis_edge.specs.Faults.{Rose};
-ghost use Rattle.orbis_core.specs.FlatLaws.{bytes_of};
+ghost use Rattle.orbis_core.specs.ByteOrder.{bytes_of};
 ghost use Rattle.aegis_run.specs.Code.{CodeRunsTo, Delivers, HoldsCode};
 
 use crate::ends::End;

@@ -1,46 +1,50 @@
--- A step over flat memory is a step of the ideal machine on which nothing is loose.
-use Rattle.std.proofs.Common.{◌≡◌, ℕ, suc, ◌*◌, ◌/◌, ◌++◌, ◌+◌, ◌-◌, ◌%◌, ◌^◌, ◌<◌, ◌≤◌, ◌⊎◌, inl, inr, Bool, true, false, ◌==◌, if◌then◌else◌, List, [], length, get_or, set, drop, nat_eq, nat_lt, Option, Some, None, IsSome, option_map, unwrap_or, Result, Ok, Err, refl, sym, ◌∙◌, ap, subst, arith, add-one, drop-cons, zero, replicate, nat_le, length-append, append_assoc}
+-- Flat memory is the ideal memory.
+use Rattle.std.proofs.Common.{◌≡◌, ℕ, suc, ◌*◌, ◌/◌, ◌++◌, ◌+◌, ◌-◌, ◌%◌, ◌^◌, ◌<◌, ◌≤◌, ◌⊎◌, inl, inr, Bool, true, false, ◌==◌, if◌then◌else◌, List, length, get_or, set, drop, nat_eq, nat_lt, Option, Some, None, IsSome, option_and_then, option_map, unwrap_or, Result, Ok, Err, refl, sym, ◌∙◌, ap, subst, arith, zero, replicate, nat_le, length-append, append_assoc}
 use Rattle.std.proofs.lemmas.Bool.Decides.{nat_tests}
 use Rattle.std.proofs.lemmas.Bool.{cases_lt, cases_eq}
 use Rattle.std.proofs.lemmas.Grind.{common_steps}
+use Rattle.std.proofs.lemmas.List.{length-replicate, get_or_append_left, get_or-append_right}
 use Rattle.std.proofs.Math.ListN.{length-set}
-use Rattle.execution.specs.Run.{Next, Goes, Stops}
-use Rattle.execution.specs.Traffic.{Traffic, input_word, after_input, next_of, without_first, after_release, after_write, loose_word, after_check, after_suspension}
+use Rattle.std.specs.Prelude.{IsTrue}
+use Rattle.execution.specs.Run.{Stops}
+use Rattle.execution.specs.Traffic.{Traffic, loose_word}
 use Rattle.orbis_word.specs.declared.Instr.{Instr}
 use Rattle.orbis_word.specs.Reading.{instruction_in}
+use Rattle.regions.specs.declared.addresses.TheConstants.{OPEN_END}
 use Rattle.regions.specs.declared.Layout.{Layout}
 use Rattle.regions.specs.declared.Mode.{Mode}
-use Rattle.regions.specs.declared.Mode.TheVariants.{Te, Ptr}
+use Rattle.regions.specs.declared.Mode.TheVariants.{Std, Te, Ptr, Ssp}
 use Rattle.regions.specs.declared.Class.{Class}
 use Rattle.regions.specs.declared.Class.TheVariants.{Open, Verified, Private, Constant, Code, Logged}
 use Rattle.regions.specs.declared.Access.{Access}
 use Rattle.regions.specs.declared.Access.TheVariants.{Read, Write, Fetch}
 use Rattle.regions.specs.Addresses.{class_at, LiesIn, HasBlock, IsInData, IsInLog, start_of, end_of}
-use Rattle.regions.specs.declared.addresses.TheConstants.{OPEN_END}
+use Rattle.regions.specs.Blocks.{data_blocks}
+use Rattle.regions.specs.LooseClasses.{nothing_loose}
+use Rattle.regions.specs.Modes.{is_secure}
+use Rattle.regions.specs.Rights.{rights}
 use Rattle.regions.proofs.AddressLaws.{class_at-LiesIn, LiesIn-class_at, HasBlock-LiesIn}
-use Rattle.regions.specs.Modes.{SecureInstruction, Enter, Exit, IndexTrap, DivideTrap, Suspend, Resume, PrivateOn, PrivateOff, Release, Input, Check, allowed_in}
 use Rattle.orbis_core.specs.declared.effect.Effect.{Effect}
 use Rattle.orbis_core.specs.declared.effect.Effect.TheVariants as effect
 use Rattle.orbis_core.specs.declared.memory.Stop.{Stop}
 use Rattle.orbis_core.specs.declared.memory.Stop.TheVariants as stop
 use Rattle.orbis_core.specs.declared.memory.Why.{Why}
 use Rattle.orbis_core.specs.declared.memory.Why.TheVariants as why
-use Rattle.orbis_core.specs.declared.port.Port.{Port}
 use Rattle.orbis_core.specs.declared.stepping.StepEnd.{StepEnd}
-use Rattle.orbis_core.specs.declared.stepping.StepEnd.TheVariants as end
+use Rattle.orbis_core.specs.ByteOrder.{byte_in, with_byte, words_in, updated, word_start}
+use Rattle.orbis_core.specs.Carrying.{CarriedTo, CarriesOver}
 use Rattle.orbis_core.specs.Effects.{effect_of}
-use Rattle.orbis_core.specs.FlatMemory.{Flat, flat_accesses, index_of, put, word_at, word_count, flat_of, open_words, block_words}
-use Rattle.orbis_core.specs.FlatIsIdeal.{HasWords, HasInput, GoesTo, Answers, FlatStepIsIdeal, FlatStartIsIdeal}
-use Rattle.orbis_core.specs.Ideal.{Ideal, IdealEnd, Refused, carried, executed, ideal_step, is_among, loaded, loads, memory_stored, nothing_loose, secured, shared_loose, stores, taken, traffic_stored, unless, updated, word_start}
-use Rattle.orbis_core.specs.Processor.{Processor, advanced, register, written}
+use Rattle.orbis_core.specs.FlatIsIdeal.{HasWords, IsTied, Follows, IsKeptOut, FlatStepIsIdeal, FlatStartIsIdeal}
+use Rattle.orbis_core.specs.FlatMemory.{Flat, flat_accesses, flat_accesses_in, index_of, put, word_at, word_count, flat_of, open_words, block_words}
+use Rattle.orbis_core.specs.Ideal.{Ideal, Refused, accessed_by, carried, effect_at, from_nowhere, ideal_step, is_among, loads, memory_stored, static_memory, stores, traffic_stored, unless}
+use Rattle.orbis_core.specs.OwnMemory.{Own, OwnLoad, OwnStore, own_accesses}
+use Rattle.orbis_core.specs.Processor.{Processor}
 use Rattle.orbis_core.specs.Refusals.{answered, is_allowed, word_refusal, byte_refusal, unless_refused}
-use Rattle.orbis_core.specs.Rows.{Machine, Carries, Executes, GoesOn, Leaves, Steps, core_loaded, core_stored, end_behind}
-use Rattle.orbis_core.specs.Secure.{secure_of, secure_end, secure_core, secure_port, port_read}
-use Rattle.orbis_core.specs.Secure.{input_word as port_word}
-use Rattle.orbis_core.specs.Words.{byte_in, with_byte, words_in}
-use Rattle.std.proofs.lemmas.List.{length-replicate, get_or_append_left, get_or-append_right}
-use Rattle.regions.specs.Blocks.{data_blocks}
-use Rattle.orbis_core.specs.FlatLaws.{length-words_in, between}
+use Rattle.orbis_core.specs.Rows.{Machine, Carries, Executes, GoesOn, Steps, over}
+use Rattle.orbis_core.proofs.CarryingLemmas.{steps-carry}
+use Rattle.orbis_core.proofs.FlatLaws.{length-words_in, between}
+use Rattle.orbis_core.proofs.OwnLemmas.{step-facts}
+use Rattle.orbis_core.proofs.StepLaws.{step-effect}
 
 -- ---- addresses
 
@@ -111,7 +115,7 @@ zeros-get_or zero i = refl
 zeros-get_or (suc count) zero = refl
 zeros-get_or (suc count) (suc i) = zeros-get_or count i
 
--- zeros stand before and behind the words in the middle
+-- zeros stand before and after the words in the middle
 zero-front : (count rest i : ℕ) (words : List ℕ) → i < count → (let all : List ℕ = replicate count 0 ++ words ++ replicate rest 0 in get_or all i 0 ≡ 0)
 zero-front count rest i words below =
     let front : List ℕ = replicate count 0 in
@@ -128,7 +132,7 @@ zero-back count rest i words above =
     let whole : length (front ++ words) ≡ count + length words = length-append front words ∙ ap (λ n. n + length words) long in
     get_or-append_right (front ++ words) back (count + length words) i 0 whole above ∙ zeros-get_or rest (i - (count + length words))
 
--- a static address has the number of its static word, and the others have numbers before or behind them
+-- a static address has the number of its static word, and the others have numbers before or after them
 static_index : (layout : Layout) (at : ℕ) → start_of layout Constant ≤ at → at < end_of layout Code
     → index_of layout at ≡ open_words + block_words * (layout.verified + layout.private) + (at - start_of layout Constant) / 4
 static_index layout at from below = let fits = layout.data_fits in grind (arith, nat_tests)
@@ -143,8 +147,8 @@ back_index layout at (inl a) above = absurd (omega arith)
 back_index layout at (inr (inl a)) above = absurd (omega (arith, a.from, a.block))
 back_index layout at (inr (inr a)) above = grind (arith, nat_tests, a.from, a.block)
 
-pub flat-start : FlatStartIsIdeal
-flat-start layout statics long =
+flat-words : (layout : Layout) (statics : List ℕ) → length statics ≡ 64 * (layout.constants + layout.code) → HasWords (flat_of layout statics) (static_memory layout statics)
+flat-words layout statics long =
     let count : ℕ = open_words + block_words * (layout.verified + layout.private) in
     let rest : ℕ = block_words * layout.log in
     let words : List ℕ = words_in statics in
@@ -169,8 +173,8 @@ flat-start layout statics long =
                   | inr above ↦
                       let first : nat_le (start_of layout Constant) at ≡ true = grind (arith, nat_tests) in
                       let second : nat_lt at (end_of layout Code) ≡ false = grind (arith, nat_tests) in
-                      let behind : count + length words ≤ index_of layout at = (let far : open_words + block_words * data_blocks layout ≤ index_of layout at = back_index layout at (inside layout at some) above in omega arith) in
-                      rw (first, second) (sym (zero-back count rest (index_of layout at) words behind))
+                      let above_all : count + length words ≤ index_of layout at = (let far : open_words + block_words * data_blocks layout ≤ index_of layout at = back_index layout at (inside layout at some) above in omega arith) in
+                      rw (first, second) (sym (zero-back count rest (index_of layout at) words above_all))
                 ]
           ];
     }
@@ -228,7 +232,7 @@ miss memory at word other apart = grind (arith, nat_tests)
 start_aligned : (at : ℕ) → word_start at % 4 ≡ 0
 start_aligned at = omega arith
 
--- behind a store both memories have the new word
+-- after a store both memories have the new word
 words_put : (flat : Flat) (memory : ℕ → ℕ) (at word : ℕ) → HasWords flat memory → IsSome (class_at flat.layout at) → HasWords (put flat at word) (updated memory (word_start at) word)
 words_put flat memory at word has some =
     let start : ℕ = word_start at in
@@ -252,198 +256,319 @@ words_put flat memory at word has some =
     length-set-whole : (flat : Flat) (i word : ℕ) → length flat.words ≡ word_count flat.layout → length (set flat.words i word) ≡ word_count flat.layout
     length-set-whole flat i word whole = length-set flat.words i word ∙ whole
 
--- ---- input
+-- ---- flat memory in the rights of a mode as the machine's own
 
-next-word : (xs : List ℕ) (i : ℕ) → i < length xs → get_or xs i 0 < 2 ^ 8 → next_of (drop i xs) ≡ get_or xs i 0
-next-word xs i below fits = rw (drop-cons xs i 0) (omega arith)
+abbrev own_with : Layout → Mode → (ℕ → ℕ) → Traffic ℕ → Own
+own_with layout mode memory traffic = record { layout = layout; outside = from_nowhere; mode = mode; memory = memory; traffic = traffic }
 
-next-rest : (xs : List ℕ) (i : ℕ) → i < length xs → without_first (drop i xs) ≡ drop (i + 1) xs
-next-rest xs i below = rw (add-one, drop-cons xs i 0) refl
+-- the machine's own memory has these words
+pub record IsOwnOf (mode : Mode) (flat : Flat) (own : Own) : Type 0 where
+  pub memory : ℕ → ℕ
+  pub traffic : Traffic ℕ
+  pub words : HasWords flat memory
+  pub is : own ≡ own_with flat.layout mode memory traffic
 
-drop-all : (xs : List ℕ) (i : ℕ) → length xs ≤ i → drop i xs ≡ []
-drop-all xs i above = grind (arith, common_steps)
+-- an answer that is not refused has this value
+alike : {T : Type 0} (r : Option Why) (x y : T) → (r ≡ None → x ≡ y) → answered r x ≡ answered r y
+alike None x y same = ap (λ v. answered None v) (same refl)
+alike (Some reason) x y same = refl
 
-record ReadsAlike (port : Port) (traffic : Traffic ℕ) : Type 0 where
-  word : input_word traffic ≡ port_word port
-  input : HasInput (port_read port) (after_input traffic)
+own-load : (r : Option Why) (loose : Bool) (came : Option ℕ) (value flat_value : ℕ) (own : Own) (answer : Result ℕ Stop) → loose ≡ false → (r ≡ None → value ≡ flat_value)
+    → answer ≡ answered r flat_value → OwnLoad r loose came value own answer own
+own-load (Some reason) loose came value flat_value own answer none same is = (is, refl)
+own-load None false came value flat_value own answer none same is = (is ∙ ap (λ (v : ℕ). answered None v) (sym (same refl)), refl)
+own-load None true came value flat_value own answer none same is = absurd (grind (arith, none))
 
-reads_alike : (port : Port) (traffic : Traffic ℕ) → HasInput port traffic → ReadsAlike port traffic
-reads_alike port traffic has =
-    elim (cases_lt port.next (length port.input.now)) [
-      | inl below ↦
-          let test : nat_lt port.next (length port.input.now) ≡ true = grind (arith, nat_tests) in
-          let word : next_of (drop port.next port.input.now) ≡ get_or port.input.now port.next 0 = next-word port.input.now port.next below (has.bytes port.next) in
-          let P : Bool → Type 0 = λ b. input_word traffic ≡ (if b then get_or port.input.now port.next 0 else 2 ^ 32 - 1) in
-          let Q : Bool → Type 0 = λ b. HasInput (if b then record port { next = port.next + 1 } else port) (after_input traffic) in
-          record {
-            word = subst P (sym test) (ap next_of has.rest ∙ word);
-            input = subst Q (sym test) (record {
-              within = omega arith;
-              bytes = has.bytes;
-              rest = ap without_first has.rest ∙ next-rest port.input.now port.next below;
-            });
-          }
-      | inr above ↦
-          let test : nat_lt port.next (length port.input.now) ≡ false = grind (arith, nat_tests) in
-          let none : drop port.next port.input.now ≡ [] = drop-all port.input.now port.next above in
-          let P : Bool → Type 0 = λ b. input_word traffic ≡ (if b then get_or port.input.now port.next 0 else 2 ^ 32 - 1) in
-          let Q : Bool → Type 0 = λ b. HasInput (if b then record port { next = port.next + 1 } else port) (after_input traffic) in
-          record {
-            word = subst P (sym test) (ap next_of (has.rest ∙ none));
-            input = subst Q (sym test) (record {
-              within = has.within;
-              bytes = has.bytes;
-              rest = ap without_first (has.rest ∙ none) ∙ sym none;
-            });
-          }
-    ]
-
-input_stored : (port : Port) (traffic : Traffic ℕ) (at value : ℕ) (shared : Bool) → HasInput port traffic → HasInput port (if shared then after_write at value traffic else traffic)
-input_stored port traffic at value true has = record { within = has.within; bytes = has.bytes; rest = has.rest }
-input_stored port traffic at value false has = has
-
--- ---- steps
-
-module _ (old new : Machine Flat) (ended : StepEnd) (memory : ℕ → ℕ) (traffic : Traffic ℕ) (has : HasWords old.memory memory) (input : HasInput old.port traffic) where
-  abbrev layout : Layout
-  layout = old.memory.layout
-
-  abbrev at_old : Ideal
-  at_old = record { core = old.core; mode = Ptr; memory = memory; traffic = traffic }
-
-  -- an answer at the end that there is
-  answers_at : (end : StepEnd) (next : Next Ideal IdealEnd) → ended ≡ end → Answers end new at_old next → Answers ended new at_old next
-  answers_at end next is answers = let P : StepEnd → Type 0 = λ e. Answers e new at_old next in subst P (sym is) answers
-
-  -- on to where the other machine is
-  goes_to : (mode : Mode) (core : Processor) (words : ℕ → ℕ) (later : Traffic ℕ) → new.core ≡ core → HasWords new.memory words → HasInput new.port later
-      → GoesTo new mode (Goes (record { core = core; mode = mode; memory = words; traffic = later }))
-  goes_to mode core words later same words_are input_is = record {
-    state = record { core = core; mode = mode; memory = words; traffic = later };
-    goes = refl;
-    tied = record { core = sym same; mode_is = refl; words = words_are; input = input_is };
+module _ (mode : Mode) where
+  -- it has them still
+  stays : (old new : Flat) (memory : ℕ → ℕ) (traffic : Traffic ℕ) → HasWords old memory → new ≡ old → IsOwnOf mode new (own_with old.layout mode memory traffic)
+  stays old new memory traffic words same = record {
+    memory = memory;
+    traffic = traffic;
+    words = subst (λ (flat : Flat). HasWords flat memory) (sym same) words;
+    is = ap (λ (flat : Flat). own_with flat.layout mode memory traffic) (sym same);
   }
 
-  kept_words : new.memory ≡ old.memory → HasWords new.memory memory
-  kept_words same = let P : Flat → Type 0 = λ m. HasWords m memory in subst P (sym same) has
-
-  kept_input : (later : Traffic ℕ) → later.input ≡ traffic.input → new.port ≡ old.port → HasInput new.port later
-  kept_input later left same =
-      let P : Port → Type 0 = λ p. HasInput p later in
-      subst P (sym same) (record { within = input.within; bytes = input.bytes; rest = left ∙ input.rest })
-
-  -- an effect on registers alone
-  registers_case : (core : Processor) → Leaves end.Next core old.port old ended new → Answers ended new at_old (Goes (record at_old { core = core }))
-  registers_case core left = answers_at end.Next _ left.ends (goes_to Ptr core memory traffic left.core (kept_words left.memory) (kept_input traffic refl left.port))
-
-  -- a load
-  load_case : (r : Option Why) (cut : ℕ → ℕ) (d at value flat_value : ℕ) → (r ≡ None → value ≡ flat_value) → (answer : Result ℕ Stop) → answer ≡ answered r flat_value
-      → ended ≡ end_behind answer → new.core ≡ core_loaded d answer old.core → new.memory ≡ old.memory → new.port ≡ old.port
-      → Answers ended new at_old (unless r at_old (loads layout nothing_loose cut d at value at_old))
-  load_case (Some reason) cut d at value flat_value same answer is ends core words port =
-      answers_at (end.Stopped (stop.Refused reason)) _ (ends ∙ ap end_behind is) refl
-  load_case None cut d at value flat_value same answer is ends core words port =
-      let P : Bool → Type 0 = λ b. Answers ended new at_old (if b then taken cut d (loose_word nat_eq at traffic) at_old else loaded d value at_old) in
-      let now : new.core ≡ written old.core d value = core ∙ ap (λ a. core_loaded d a old.core) is ∙ ap (λ v. written old.core d v) (sym (same refl)) in
-      subst P (sym (none_loose layout at))
-      (answers_at end.Next _ (ends ∙ ap end_behind is) (goes_to Ptr (written old.core d value) memory traffic now (kept_words words) (kept_input traffic refl port)))
-
-  -- a store
-  store_case : (r : Option Why) (at value word flat_word : ℕ) → (r ≡ None → HasWords (put old.memory at flat_word) (updated memory (word_start at) word))
-      → (answer : Result (Unit {0}) Stop) → answer ≡ answered r tt → ended ≡ end_behind answer → new.core ≡ core_stored answer old.core
-      → new.memory ≡ unless_refused r old.memory (put old.memory at flat_word) → new.port ≡ old.port
-      → Answers ended new at_old (unless r at_old (stores layout nothing_loose at value word at_old))
-  store_case (Some reason) at value word flat_word same answer is ends core words port =
-      answers_at (end.Stopped (stop.Refused reason)) _ (ends ∙ ap end_behind is) refl
-  store_case None at value word flat_word same answer is ends core words port =
-      let P : Bool → Type 0 = λ b. HasWords new.memory (if b then memory else updated memory (word_start at) word) in
-      let Q : Flat → Type 0 = λ m. HasWords m (updated memory (word_start at) word) in
-      let words_now : HasWords new.memory (memory_stored layout nothing_loose at word memory) = subst P (sym (none_loose layout at)) (subst Q (sym words) (same refl)) in
-      answers_at end.Next _ (ends ∙ ap end_behind is) (goes_to Ptr (advanced old.core) _ (traffic_stored layout at value traffic) (core ∙ ap (λ a. core_stored a old.core) is) words_now
-      (input_stored new.port traffic at value (is_among shared_loose layout at) (kept_input traffic refl port)))
-
-  -- a secure instruction
-  secure_case : (asked : SecureInstruction) → Leaves (secure_end asked old.core) (secure_core asked old.port old.core) (secure_port asked old.port) old ended new
-      → Answers ended new at_old (if allowed_in asked Ptr then secured asked at_old else Stops (Refused why.Mode) at_old)
-  unfolding goes_to
-  secure_case Enter left = answers_at end.Enter _ left.ends refl
-  secure_case Resume left = answers_at end.Resume _ left.ends refl
-  secure_case PrivateOn left = answers_at (end.Private true) _ left.ends refl
-  secure_case PrivateOff left = answers_at (end.Private false) _ left.ends (goes_to Te (advanced old.core) memory traffic left.core (kept_words left.memory) (kept_input traffic refl left.port))
-  secure_case Exit left = answers_at end.Exit _ left.ends (record { state = record at_old { core = advanced old.core }; ends = refl; core = sym left.core })
-  secure_case IndexTrap left = answers_at (end.Index (register old.core 3)) _ left.ends (record { state = record at_old { core = advanced old.core }; ends = refl; core = sym left.core })
-  secure_case DivideTrap left = answers_at (end.Divide (register old.core 3)) _ left.ends (record { state = record at_old { core = advanced old.core }; ends = refl; core = sym left.core })
-  secure_case Suspend left = answers_at end.Suspend _ left.ends (goes_to Ptr (advanced old.core) memory (after_suspension traffic) left.core (kept_words left.memory) (kept_input (after_suspension traffic) refl left.port))
-  secure_case Check left = answers_at end.Check _ left.ends (goes_to Ptr (advanced old.core) memory (after_check traffic) left.core (kept_words left.memory) (kept_input (after_check traffic) refl left.port))
-  secure_case Release left =
-      answers_at (end.Released (register old.core 3 % 2 ^ 8)) _ left.ends
-      (goes_to Ptr (advanced old.core) memory (after_release (register old.core 3) traffic) left.core (kept_words left.memory) (kept_input (after_release (register old.core 3) traffic) refl left.port), refl)
-  secure_case Input left =
-      let alike : ReadsAlike old.port traffic = reads_alike old.port traffic input in
-      let P : Port → Type 0 = λ p. HasInput p (after_input traffic) in
-      answers_at end.Input _ left.ends (goes_to Ptr (written old.core 11 (input_word traffic)) memory (after_input traffic)
-      (left.core ∙ ap (λ word. written old.core 11 word) (sym alike.word)) (kept_words left.memory) (subst P (sym left.port) alike.input))
-
   -- the word that an address lies in, where it has a class
-  word_alike : (at : ℕ) → IsSome (class_at layout at) → memory (word_start at) ≡ word_at old.memory at
-  word_alike at some =
-      has.each (word_start at) (start_aligned at) (some_start layout at some)
-      ∙ ap (λ i. get_or old.memory.words i 0) (same_index layout at (inside layout at some))
+  word-alike : (flat : Flat) (memory : ℕ → ℕ) (at : ℕ) → HasWords flat memory → IsSome (class_at flat.layout at) → memory (word_start at) ≡ word_at flat at
+  word-alike flat memory at words some =
+      words.each (word_start at) (start_aligned at) (some_start flat.layout at some)
+      ∙ ap (λ i. get_or flat.words i 0) (same_index flat.layout at (inside flat.layout at some))
 
-  -- each effect
-  effect_case : (asked : Effect) → Carries flat_accesses asked old ended new → Answers ended new at_old (carried layout nothing_loose asked at_old)
-  effect_case effect.Proceed row = registers_case _ row
-  effect_case (effect.Write d value) row = registers_case _ row
-  effect_case (effect.Compare flag) row = registers_case _ row
-  effect_case (effect.Jump to) row = registers_case _ row
-  effect_case (effect.Link to) row = registers_case _ row
-  effect_case effect.DivideByZero row = answers_at (end.Stopped (stop.Refused why.Divide)) _ row.ends refl
-  effect_case (effect.Secure f) row = secure_case (secure_of f) row
-  effect_case (effect.LoadWord d at) row =
-      load_case (word_refusal layout Ptr Read at) (λ word. word) d at (memory at) (word_at old.memory at)
-      (λ none. let place : IsAligned layout at = word_some layout Ptr Read at none in has.each at place.aligned place.some)
-      row.answer row.loaded.0 row.ends row.core row.loaded.1 row.port
-  effect_case (effect.LoadByte d at) row =
-      load_case (byte_refusal layout Ptr Read at) (λ word. word % 2 ^ 8) d at (byte_in (memory (word_start at)) at) (byte_in (word_at old.memory at) at)
-      (λ none. ap (λ word. byte_in word at) (word_alike at (byte_some layout Ptr Read at none)))
-      row.answer row.loaded.0 row.ends row.core row.loaded.1 row.port
-  effect_case (effect.StoreWord at word) row =
-      store_case (word_refusal layout Ptr Write at) at word word word
-      (λ none. words_put old.memory memory at word has (word_some layout Ptr Write at none).some)
-      row.answer row.stored.0 row.ends row.core row.stored.1 row.port
-  effect_case (effect.StoreByte at byte) row =
-      store_case (byte_refusal layout Ptr Write at) at byte (with_byte (memory (word_start at)) at byte) (with_byte (word_at old.memory at) at byte)
-      (λ none.
-      let some : IsSome (class_at layout at) = byte_some layout Ptr Write at none in
-      let P : ℕ → Type 0 = λ word. HasWords (put old.memory at (with_byte (word_at old.memory at) at byte)) (updated memory (word_start at) (with_byte word at byte)) in
-      subst P (sym (word_alike at some)) (words_put old.memory memory at (with_byte (word_at old.memory at) at byte) has some))
-      row.answer row.stored.0 row.ends row.core row.stored.1 row.port
+  own-store : (old new : Flat) (memory : ℕ → ℕ) (traffic : Traffic ℕ) (r : Option Why) (at value word flat_word : ℕ) (answer : Result (Unit {0}) Stop) → HasWords old memory
+      → (r ≡ None → HasWords (put old at flat_word) (updated memory (word_start at) word)) → answer ≡ answered r tt → new ≡ unless_refused r old (put old at flat_word)
+      → CarriedTo (IsOwnOf mode) new (λ (after : Own). OwnStore r at value word (own_with old.layout mode memory traffic) answer after)
+  own-store old new memory traffic (Some reason) at value word flat_word answer words same is new_is = record {
+    after = own_with old.layout mode memory traffic;
+    done = (is, refl);
+    related = stays old new memory traffic words new_is;
+  }
+  own-store old new memory traffic None at value word flat_word answer words same is new_is =
+      let P : Bool → Type 0 = λ b. HasWords (put old at flat_word) (if b then memory else updated memory (word_start at) word) in
+      record {
+        after = own_with old.layout mode (memory_stored old.layout nothing_loose at word memory) (traffic_stored old.layout at value traffic);
+        done = (is, refl);
+        related = stays (put old at flat_word) new (memory_stored old.layout nothing_loose at word memory) (traffic_stored old.layout at value traffic) (subst P (sym (none_loose old.layout at)) (same refl)) new_is;
+      }
 
-  -- a word that is an instruction or not
-  word_case : (found : Option Instr) → Executes flat_accesses found old ended new → Answers ended new at_old (executed layout nothing_loose found at_old)
-  word_case None row = answers_at (end.Stopped (stop.Refused why.Illegal)) _ row.ends refl
-  word_case (Some instruction) row = effect_case (effect_of instruction old.core) row
+  pub flat-carries : CarriesOver (flat_accesses_in mode) own_accesses (IsOwnOf mode)
+  flat-carries = record {
+    fetch = λ old new at answer other r done. subst (λ (o : Own). CarriedTo (IsOwnOf mode) new (own_accesses.fetch o at answer)) (sym r.is) (record {
+      after = own_with old.layout mode r.memory r.traffic;
+      done = (
+        done.0 ∙ alike (word_refusal old.layout mode Fetch at) (word_at old at) (r.memory at)
+            (λ none. let place : IsAligned old.layout at = word_some old.layout mode Fetch at none in sym (r.words.each at place.aligned place.some)),
+        refl,
+      );
+      related = stays old new r.memory r.traffic r.words done.1;
+    });
+    load_word = λ old new at answer other r done. subst (λ (o : Own). CarriedTo (IsOwnOf mode) new (own_accesses.load_word o at answer)) (sym r.is) (record {
+      after = own_with old.layout mode r.memory r.traffic;
+      done = own-load (word_refusal old.layout mode Read at) (is_among nothing_loose old.layout at) (loose_word nat_eq at r.traffic) (r.memory at) (word_at old at)
+          (own_with old.layout mode r.memory r.traffic) answer (none_loose old.layout at)
+          (λ none. let place : IsAligned old.layout at = word_some old.layout mode Read at none in r.words.each at place.aligned place.some) done.0;
+      related = stays old new r.memory r.traffic r.words done.1;
+    });
+    load_byte = λ old new at answer other r done. subst (λ (o : Own). CarriedTo (IsOwnOf mode) new (own_accesses.load_byte o at answer)) (sym r.is) (record {
+      after = own_with old.layout mode r.memory r.traffic;
+      done = own-load (byte_refusal old.layout mode Read at) (is_among nothing_loose old.layout at) (option_map (λ word. word % 2 ^ 8) (loose_word nat_eq at r.traffic))
+          (byte_in (r.memory (word_start at)) at) (byte_in (word_at old at) at) (own_with old.layout mode r.memory r.traffic) answer (none_loose old.layout at)
+          (λ none. ap (λ word. byte_in word at) (word-alike old r.memory at r.words (byte_some old.layout mode Read at none))) done.0;
+      related = stays old new r.memory r.traffic r.words done.1;
+    });
+    store_word = λ old new at word answer other r done. subst (λ (o : Own). CarriedTo (IsOwnOf mode) new (own_accesses.store_word o at word answer)) (sym r.is)
+        (own-store old new r.memory r.traffic (word_refusal old.layout mode Write at) at word word word answer r.words
+        (λ none. words_put old r.memory at word r.words (word_some old.layout mode Write at none).some) done.0 done.1);
+    store_byte = λ old new at byte answer other r done. subst (λ (o : Own). CarriedTo (IsOwnOf mode) new (own_accesses.store_byte o at byte answer)) (sym r.is)
+        (own-store old new r.memory r.traffic (byte_refusal old.layout mode Write at) at byte (with_byte (r.memory (word_start at)) at byte) (with_byte (word_at old at) at byte) answer r.words
+        (λ none.
+        let some : IsSome (class_at old.layout at) = byte_some old.layout mode Write at none in
+        let P : ℕ → Type 0 = λ word. HasWords (put old at (with_byte (word_at old at) at byte)) (updated r.memory (word_start at) (with_byte word at byte)) in
+        subst P (sym (word-alike old r.memory at r.words some)) (words_put old r.memory at (with_byte (word_at old at) at byte) r.words some))
+        done.0 done.1);
+  }
 
-  -- a step
-  step_case : (r : Option Why) → r ≡ word_refusal layout Ptr Fetch old.core.pc → Steps flat_accesses old ended new
-      → Answers ended new at_old (unless r at_old (executed layout nothing_loose (instruction_in (memory old.core.pc)) at_old))
-  step_case (Some reason) is step =
-      let answer : step.answer ≡ Err (stop.Refused reason) = step.fetched.0 ∙ ap (λ r. answered r (word_at old.memory old.core.pc)) (sym is) in
-      let P : Result ℕ Stop → Type 0 = λ answer. GoesOn flat_accesses answer (record old { memory = step.middle }) ended new in
-      answers_at (end.Stopped (stop.Refused reason)) _ (subst P answer step.goes_on).ends refl
-  step_case None is step =
-      let answer : step.answer ≡ Ok (word_at old.memory old.core.pc) = step.fetched.0 ∙ ap (λ r. answered r (word_at old.memory old.core.pc)) (sym is) in
-      let place : IsAligned layout old.core.pc = word_some layout Ptr Fetch old.core.pc (sym is) in
-      let word : memory old.core.pc ≡ word_at old.memory old.core.pc = has.each old.core.pc place.aligned place.some in
-      let P : Result ℕ Stop → Type 0 = λ answer. GoesOn flat_accesses answer (record old { memory = step.middle }) ended new in
-      let Q : Flat → Type 0 = λ m. GoesOn flat_accesses (Ok (word_at old.memory old.core.pc)) (record old { memory = m }) ended new in
-      let R : ℕ → Type 0 = λ w. Answers ended new at_old (executed layout nothing_loose (instruction_in w) at_old) in
-      subst R (sym word) (word_case (instruction_in (word_at old.memory old.core.pc)) (subst Q step.fetched.1 (subst P answer step.goes_on)))
+-- a step over flat memory in the rights of the machine's mode is the machine's step
+flat-follows : (old new : Machine Flat) (ended : StepEnd) (state : Ideal) → IsTied old state → Steps (flat_accesses_in state.mode) old ended new
+    → Follows old new ended state (ideal_step old.memory.layout nothing_loose state)
+flat-follows old new ended state tied step =
+    let layout : Layout = old.memory.layout in
+    let own : Own = own_with layout state.mode state.memory state.traffic in
+    let start : IsOwnOf state.mode old.memory own = record { memory = state.memory; traffic = state.traffic; words = tied.words; is = refl } in
+    let moved = steps-carry (flat_accesses_in state.mode) own_accesses (IsOwnOf state.mode) (flat-carries state.mode) old new ended own start step in
+    let facts = step-facts (over own old) (over moved.after new) ended tied.input moved.done in
+    let same : record { core = old.core; mode = state.mode; memory = state.memory; traffic = state.traffic } ≡ state =
+    ap (λ (core : Processor). record state { core = core }) (sym tied.core) in
+    let mine : moved.after ≡ own_with new.memory.layout state.mode moved.related.memory moved.related.traffic = moved.related.is in
+    let at_end : Follows old new ended (record state { core = old.core }) (ideal_step layout nothing_loose (record state { core = old.core })) = record {
+      after = record { core = new.core; mode = moved.after.mode; memory = moved.after.memory; traffic = moved.after.traffic };
+      core = refl;
+      mode = ap (λ (o : Own). o.mode) mine;
+      words = subst (λ (m : ℕ → ℕ). HasWords new.memory m) (ap (λ (o : Own). o.memory) (sym mine)) moved.related.words;
+      traffic = λ no_stop. facts.out no_stop (none_loose layout);
+      input = facts.port;
+      answers = facts.answers;
+    } in
+    subst (λ (s : Ideal). Follows old new ended s (ideal_step layout nothing_loose s)) same at_end
+
+-- ---- TE
+
+-- in TE and PTR the rights are the same but for private words, which the machine in TE may not use
+te-rights : (class : Class) (access : Access) → (class ≡ Private → ⊥) → rights Te class access ≡ rights Ptr class access
+te-rights Open access other = refl
+te-rights Verified access other = refl
+te-rights Private access other = absurd (other refl)
+te-rights Constant access other = refl
+te-rights Code access other = refl
+te-rights Logged access other = refl
+
+fetch-rights : (class : Class) → rights Te class Fetch ≡ rights Ptr class Fetch
+fetch-rights Private = refl
+fetch-rights Open = refl
+fetch-rights Verified = refl
+fetch-rights Constant = refl
+fetch-rights Code = refl
+fetch-rights Logged = refl
+
+-- whether an address is private
+is-private : (found : Option Class) → (found ≡ Some Private) ⊎ (found ≡ Some Private → ⊥)
+is-private None = inr (λ is. absurd (grind (arith, is)))
+is-private (Some Private) = inl refl
+is-private (Some Open) = inr (λ is. absurd (grind (arith, is)))
+is-private (Some Verified) = inr (λ is. absurd (grind (arith, is)))
+is-private (Some Constant) = inr (λ is. absurd (grind (arith, is)))
+is-private (Some Code) = inr (λ is. absurd (grind (arith, is)))
+is-private (Some Logged) = inr (λ is. absurd (grind (arith, is)))
+
+module _ (layout : Layout) (access : Access) (at : ℕ) where
+  same-allowed : (class_at layout at ≡ Some Private → ⊥) → is_allowed layout Ptr access at ≡ is_allowed layout Te access at
+  same-allowed other = go (class_at layout at) other
+    where
+      go : (found : Option Class) → (found ≡ Some Private → ⊥) → unwrap_or (option_map (λ class. rights Ptr class access) found) false ≡ unwrap_or (option_map (λ class. rights Te class access) found) false
+      go None apart = refl
+      go (Some class) apart = sym (te-rights class access (λ is. apart (ap (λ (c : Class). Some c) is)))
+
+  same-word : (class_at layout at ≡ Some Private → ⊥) → word_refusal layout Ptr access at ≡ word_refusal layout Te access at
+  same-word other = ap (λ allowed. if allowed then (if at % 4 == 0 then None else Some why.Misaligned) else Some why.Rights) (same-allowed other)
+
+  same-byte : (class_at layout at ≡ Some Private → ⊥) → byte_refusal layout Ptr access at ≡ byte_refusal layout Te access at
+  same-byte other = ap (λ allowed. if allowed then None else Some why.Rights) (same-allowed other)
+
+  private-allowed : class_at layout at ≡ Some Private → is_allowed layout Te access at ≡ false
+  private-allowed is = ap (λ found. unwrap_or (option_map (λ class. rights Te class access) found) false) is
+
+  private-word : class_at layout at ≡ Some Private → word_refusal layout Te access at ≡ Some why.Rights
+  private-word is = ap (λ allowed. if allowed then (if at % 4 == 0 then None else Some why.Misaligned) else Some why.Rights) (private-allowed is)
+
+  private-byte : class_at layout at ≡ Some Private → byte_refusal layout Te access at ≡ Some why.Rights
+  private-byte is = ap (λ allowed. if allowed then None else Some why.Rights) (private-allowed is)
+
+same-fetch : (layout : Layout) (at : ℕ) → word_refusal layout Ptr Fetch at ≡ word_refusal layout Te Fetch at
+same-fetch layout at = ap (λ allowed. if allowed then (if at % 4 == 0 then None else Some why.Misaligned) else Some why.Rights) (go (class_at layout at))
+  where
+    go : (found : Option Class) → unwrap_or (option_map (λ class. rights Ptr class Fetch) found) false ≡ unwrap_or (option_map (λ class. rights Te class Fetch) found) false
+    go None = refl
+    go (Some class) = sym (fetch-rights class)
+
+module _ (old new : Machine Flat) (ended : StepEnd) (memory : ℕ → ℕ) (traffic : Traffic ℕ) (has : HasWords old.memory memory) where
+  abbrev te_layout : Layout
+  te_layout = old.memory.layout
+
+  abbrev in_te : Ideal
+  in_te = record { core = old.core; mode = Te; memory = memory; traffic = traffic }
+
+  abbrev IsOut : Type 0
+  IsOut = IsKeptOut te_layout in_te (ideal_step te_layout nothing_loose in_te)
+
+  kept-out : (asked : Effect) (at : ℕ) → effect_at in_te ≡ Some asked → word_refusal te_layout Te Fetch old.core.pc ≡ None → accessed_by asked ≡ Some at → class_at te_layout at ≡ Some Private
+      → carried te_layout from_nowhere asked in_te ≡ Stops (Refused why.Rights) in_te → IsOut
+  kept-out asked at is none accessed hidden out = record {
+    mode = refl;
+    at = at;
+    accessed = ap (λ found. option_and_then accessed_by found) is ∙ accessed;
+    hidden = hidden;
+    refused = step-effect te_layout from_nowhere in_te asked none is ∙ out;
+  }
+
+  te-effects : (asked : Effect) → effect_at in_te ≡ Some asked → word_refusal te_layout Te Fetch old.core.pc ≡ None → Carries flat_accesses asked old ended new
+      → Carries (flat_accesses_in Te) asked old ended new ⊎ IsOut
+  te-effects (effect.LoadWord d at) is none row =
+      elim (is-private (class_at te_layout at)) [
+        | inl hidden ↦ inr (kept-out (effect.LoadWord d at) at is none refl hidden (ap (λ r. unless r in_te (loads te_layout from_nowhere d at (loose_word nat_eq at traffic) (memory at) in_te)) (private-word te_layout Read at hidden)))
+        | inr other ↦ inl (record {
+          answer = row.answer;
+          loaded = (row.loaded.0 ∙ ap (λ r. answered r (word_at old.memory at)) (same-word te_layout Read at other), row.loaded.1);
+          ends = row.ends;
+          core = row.core;
+          port = row.port;
+        })
+      ]
+  te-effects (effect.LoadByte d at) is none row =
+      elim (is-private (class_at te_layout at)) [
+        | inl hidden ↦ inr (kept-out (effect.LoadByte d at) at is none refl hidden
+            (ap (λ r. unless r in_te (loads te_layout from_nowhere d at (option_map (λ word. word % 2 ^ 8) (loose_word nat_eq at traffic)) (byte_in (memory (word_start at)) at) in_te)) (private-byte te_layout Read at hidden)))
+        | inr other ↦ inl (record {
+          answer = row.answer;
+          loaded = (row.loaded.0 ∙ ap (λ r. answered r (byte_in (word_at old.memory at) at)) (same-byte te_layout Read at other), row.loaded.1);
+          ends = row.ends;
+          core = row.core;
+          port = row.port;
+        })
+      ]
+  te-effects (effect.StoreWord at word) is none row =
+      elim (is-private (class_at te_layout at)) [
+        | inl hidden ↦ inr (kept-out (effect.StoreWord at word) at is none refl hidden (ap (λ r. unless r in_te (stores te_layout nothing_loose at word word in_te)) (private-word te_layout Write at hidden)))
+        | inr other ↦ inl (record {
+          answer = row.answer;
+          stored = (
+            row.stored.0 ∙ ap (λ r. answered r tt) (same-word te_layout Write at other),
+            row.stored.1 ∙ ap (λ r. unless_refused r old.memory (put old.memory at word)) (same-word te_layout Write at other),
+          );
+          ends = row.ends;
+          core = row.core;
+          port = row.port;
+        })
+      ]
+  te-effects (effect.StoreByte at byte) is none row =
+      elim (is-private (class_at te_layout at)) [
+        | inl hidden ↦ inr (kept-out (effect.StoreByte at byte) at is none refl hidden
+            (ap (λ r. unless r in_te (stores te_layout nothing_loose at byte (with_byte (memory (word_start at)) at byte) in_te)) (private-byte te_layout Write at hidden)))
+        | inr other ↦ inl (record {
+          answer = row.answer;
+          stored = (
+            row.stored.0 ∙ ap (λ r. answered r tt) (same-byte te_layout Write at other),
+            row.stored.1 ∙ ap (λ r. unless_refused r old.memory (put old.memory at (with_byte (word_at old.memory at) at byte))) (same-byte te_layout Write at other),
+          );
+          ends = row.ends;
+          core = row.core;
+          port = row.port;
+        })
+      ]
+  te-effects effect.Proceed is none row = inl row
+  te-effects (effect.Write d value) is none row = inl row
+  te-effects (effect.Compare flag) is none row = inl row
+  te-effects (effect.Jump target) is none row = inl row
+  te-effects (effect.Link target) is none row = inl row
+  te-effects effect.DivideByZero is none row = inl row
+  te-effects (effect.Secure f) is none row = inl row
+
+  te-executes : (found : Option Instr) → option_map (λ instruction. effect_of instruction old.core) found ≡ effect_at in_te → word_refusal te_layout Te Fetch old.core.pc ≡ None
+      → Executes flat_accesses found old ended new → Executes (flat_accesses_in Te) found old ended new ⊎ IsOut
+  te-executes None is none row = inl row
+  te-executes (Some instruction) is none row = te-effects (effect_of instruction old.core) (sym is) none row
+
+  -- a step over flat memory is one in the rights of TE, or the machine is kept out
+  te-step : Steps flat_accesses old ended new → Steps (flat_accesses_in Te) old ended new ⊎ IsOut
+  te-step step = go (word_refusal te_layout Te Fetch old.core.pc) refl
+    where
+      from_old : GoesOn flat_accesses step.answer old ended new
+      from_old = subst (λ (m : Flat). GoesOn flat_accesses step.answer (record old { memory = m }) ended new) step.fetched.1 step.goes_on
+
+      answer-te : step.answer ≡ answered (word_refusal te_layout Te Fetch old.core.pc) (word_at old.memory old.core.pc)
+      answer-te = step.fetched.0 ∙ ap (λ r. answered r (word_at old.memory old.core.pc)) (same-fetch te_layout old.core.pc)
+
+      rebuilt : GoesOn (flat_accesses_in Te) step.answer old ended new → Steps (flat_accesses_in Te) old ended new
+      rebuilt row = record { answer = step.answer; middle = old.memory; fetched = (answer-te, refl); goes_on = row }
+
+      go : (r : Option Why) → r ≡ word_refusal te_layout Te Fetch old.core.pc → Steps (flat_accesses_in Te) old ended new ⊎ IsOut
+      go (Some reason) is =
+          let answer : step.answer ≡ Err (stop.Refused reason) = answer-te ∙ ap (λ r. answered r (word_at old.memory old.core.pc)) (sym is) in
+          inl (rebuilt (subst (λ (a : Result ℕ Stop). GoesOn (flat_accesses_in Te) a old ended new) (sym answer) (subst (λ (a : Result ℕ Stop). GoesOn flat_accesses a old ended new) answer from_old)))
+      go None is =
+          let answer : step.answer ≡ Ok (word_at old.memory old.core.pc) = answer-te ∙ ap (λ r. answered r (word_at old.memory old.core.pc)) (sym is) in
+          let place : IsAligned te_layout old.core.pc = word_some te_layout Te Fetch old.core.pc (sym is) in
+          let word : word_at old.memory old.core.pc ≡ memory old.core.pc = sym (has.each old.core.pc place.aligned place.some) in
+          let row : Executes flat_accesses (instruction_in (word_at old.memory old.core.pc)) old ended new = subst (λ (a : Result ℕ Stop). GoesOn flat_accesses a old ended new) answer from_old in
+          elim (te-executes (instruction_in (word_at old.memory old.core.pc)) (ap (λ w. option_map (λ instruction. effect_of instruction old.core) (instruction_in w)) word) (sym is) row) [
+            | inl done ↦ inl (rebuilt (subst (λ (a : Result ℕ Stop). GoesOn (flat_accesses_in Te) a old ended new) (sym answer) done))
+            | inr out ↦ inr out
+          ]
 
 pub flat-ideal : FlatStepIsIdeal
-flat-ideal old new ended state tied step =
-    let P : Ideal → Type 0 = λ s. Answers ended new s (ideal_step old.memory.layout nothing_loose s) in
-    let same : record { core = old.core; mode = Ptr; memory = state.memory; traffic = state.traffic } ≡ state =
-    ap (λ core. record { core = core; mode = Ptr; memory = state.memory; traffic = state.traffic }) (sym tied.core)
-    ∙ ap (λ mode. record { core = state.core; mode = mode; memory = state.memory; traffic = state.traffic }) (sym tied.mode_is) in
-    subst P same (step_case old new ended state.memory state.traffic tied.words tied.input (word_refusal old.memory.layout Ptr Fetch old.core.pc) refl step)
+flat-ideal old new ended state secure tied step = go state.mode refl secure
+  where
+    go : (mode : Mode) → mode ≡ state.mode → IsTrue (is_secure mode)
+        → Follows old new ended state (ideal_step old.memory.layout nothing_loose state) ⊎ IsKeptOut old.memory.layout state (ideal_step old.memory.layout nothing_loose state)
+    go Std is h = absurd (grind arith)
+    go Ssp is h = absurd (grind arith)
+    go Ptr is h = inl (flat-follows old new ended state tied (subst (λ (m : Mode). Steps (flat_accesses_in m) old ended new) is step))
+    go Te is h =
+        let same : record { core = old.core; mode = Te; memory = state.memory; traffic = state.traffic } ≡ state =
+        ap (λ (core : Processor). record { core = core; mode = Te; memory = state.memory; traffic = state.traffic }) (sym tied.core)
+        ∙ ap (λ (mode : Mode). record state { mode = mode }) is in
+        elim (te-step old new ended state.memory state.traffic tied.words step) [
+          | inl done ↦ inl (flat-follows old new ended state tied (subst (λ (m : Mode). Steps (flat_accesses_in m) old ended new) is done))
+          | inr out ↦ inr (subst (λ (s : Ideal). IsKeptOut old.memory.layout s (ideal_step old.memory.layout nothing_loose s)) same out)
+        ]
+
+-- ---- the start
+
+pub flat-start : FlatStartIsIdeal
+flat-start layout statics entry port loose long first bytes = record {
+  tied = record {
+    core = refl;
+    words = flat-words layout statics long;
+    input = record { within = omega (arith, first); bytes = bytes; rest = sym (ap (λ n. drop n port.input.now) first) };
+  };
+  mode = refl;
+}

@@ -1,8 +1,8 @@
 -- The words of bytes, and how a flat memory is filled.
 use Rattle.std.proofs.Common.{◌≡◌, ℕ, ◌+◌, ◌-◌, ◌/◌, List, [], ◌++◌, length, take, replicate, refl, arith}
 use Rattle.std.proofs.lemmas.Grind.{common_steps}
-use Rattle.orbis_core.specs.FlatLaws.{length-words_in}
-use Rattle.orbis_core.specs.Words.{words_in}
+use Rattle.orbis_core.proofs.FlatLaws.{length-words_in}
+use Rattle.orbis_core.specs.ByteOrder.{words_in}
 
 -- zeros, then the words of some bytes, then zeros up to the end
 pub filled : (count log all none_len second_len : ℕ) (statics none first second third : List ℕ) → all ≡ count + length statics / 4 + log → none ≡ [] → none_len ≡ 0

@@ -1,5 +1,10 @@
-pub mod FlatLemmas
+pub mod CarryingLemmas
 pub mod FlatIdealLemmas
+pub mod FlatLaws
+pub mod FlatLemmas
 mod IdealExamples
+pub mod IdealLemmas
+pub mod OwnLemmas
 pub mod ProcessorLemmas
 mod RowExamples
+pub mod StepLaws

@@ -3,8 +3,8 @@ use Rattle.std.proofs.Common.{◌≡◌, [], ◌∷◌, replicate, true, false, 
 use Rattle.orbis_word.specs.declared.Instr.TheVariants.{J, Jal, Bnf, Bf, Movhi, Jr, Lwz, Sb, Addi, Andi, Sra, Div, Sub, Sflts, Sfltu}
 use Rattle.orbis_core.specs.declared.effect.Effect.TheVariants.{Proceed, Write, Compare, Jump, Link, LoadWord, StoreByte, DivideByZero}
 use Rattle.orbis_core.specs.Effects.{effect_of}
-use Rattle.orbis_core.specs.Processor.{Processor, core_behind, register}
-use Rattle.orbis_core.specs.Words.{byte_in, with_byte, words_in}
+use Rattle.orbis_core.specs.Processor.{Processor, core_after, register}
+use Rattle.orbis_core.specs.ByteOrder.{byte_in, with_byte, words_in}
 
 -- at 0x100, with 0, -1, -7 and 0x8000 in the first registers, and the flag set
 abbrev core : Processor
@@ -18,7 +18,7 @@ branches : (effect_of (Bf (pos 3)) core ≡ Jump 0x10c) × (effect_of (Bnf (pos 
 branches = (refl, refl)
 
 -- the link is the address behind the instruction, and register 0 takes no write
-links : (register (core_behind (Link 0x10c) core) 9 ≡ 0x104) × (register (core_behind (Write 0 5) core) 0 ≡ 0) × (register (core_behind (Write 4 5) core) 4 ≡ 5)
+links : (register (core_after (Link 0x10c) core) 9 ≡ 0x104) × (register (core_after (Write 0 5) core) 0 ≡ 0) × (register (core_after (Write 4 5) core) 4 ≡ 5)
 links = (refl, refl, refl)
 
 -- constants: the upper half, with their sign, and with zeros

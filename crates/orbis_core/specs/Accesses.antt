@@ -1,9 +1,9 @@
--- What the calls of a memory do, and how many accesses are left behind them.
+-- Promise: what the calls of a memory do, and how many accesses are left after them.
 use Rattle.std.specs.Prelude.{ℕ, ◌+◌, Result, Ok, Err}
 use Rattle.orbis_core.specs.declared.memory.Stop.{Stop}
 use Rattle.orbis_core.specs.declared.memory.Stop.TheVariants.{Refused, Tree, Log}
 
--- Each call relates the memory before it, the arguments, the answer and the memory behind it.
+-- Each call relates the memory before it, the arguments, the answer and the memory after it.
 pub record Accesses (M : Type 0) : Type 1 where
   pub fetch : M → ℕ → Result ℕ Stop → M → Type 0
   pub load_word : M → ℕ → Result ℕ Stop → M → Type 0
@@ -18,6 +18,6 @@ IsSettled (Err (Refused why)) = Unit {0}
 IsSettled (Err (Tree event)) = ⊥
 IsSettled (Err (Log event)) = ⊥
 
--- behind an access that was done or refused at most one access fewer is left
+-- after an access that was done or refused at most one access fewer is left
 abbrev pub LeavesOneFewer : {M T : Type 0} → (M → ℕ → Type 0) → M → Result T Stop → M → Type 0
 LeavesOneFewer has_left old result new = IsSettled result → (n : ℕ) → has_left old (n + 1) → has_left new n

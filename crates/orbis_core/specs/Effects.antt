@@ -1,4 +1,4 @@
--- The instruction table: what each instruction asks for (OpenRISC 1000 Architecture Manual, section 5.3; there is no delay slot).
+-- Promise: the instruction table: what each instruction asks for (OpenRISC 1000 Architecture Manual, section 5.3; there is no delay slot).
 use Rattle.std.specs.Prelude.{ℕ, ◌*◌, ◌+◌, ◌%◌, ◌^◌, ◌<◌, ◌≤◌, Bool, not, ◌==◌, if◌then◌else◌, ℤ, pos, ◌*ℤ◌}
 use Rattle.aegis_num.specs.declared.BinaryOp.{BinaryOp}
 use Rattle.aegis_num.specs.declared.BinaryOp.TheVariants as on

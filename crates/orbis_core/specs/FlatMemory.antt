@@ -1,6 +1,7 @@
--- A memory of words with the classes of a layout, which grants the rights of the private tamper-resistant mode.
+-- Promise: a memory of plain words with the classes of a layout.
 use Rattle.std.specs.Prelude.{◌≡◌, ℕ, ◌+◌, ◌-◌, ◌*◌, ◌/◌, nat_lt, if◌then◌else◌, List, ◌++◌, replicate, slice_index, slice_set, Result}
 use Rattle.regions.specs.declared.Layout.{Layout}
+use Rattle.regions.specs.declared.Mode.{Mode}
 use Rattle.regions.specs.declared.Mode.TheVariants.{Ptr}
 use Rattle.regions.specs.declared.Access.{Access}
 use Rattle.regions.specs.declared.Access.TheVariants.{Read, Write, Fetch}
@@ -9,7 +10,7 @@ use Rattle.regions.specs.Blocks.{data_blocks}
 use Rattle.orbis_core.specs.declared.memory.Stop.{Stop}
 use Rattle.orbis_core.specs.Accesses.{Accesses}
 use Rattle.orbis_core.specs.Refusals.{word_refusal, byte_refusal, answered, unless_refused}
-use Rattle.orbis_core.specs.Words.{words_in, byte_in, with_byte}
+use Rattle.orbis_core.specs.ByteOrder.{words_in, byte_in, with_byte}
 
 -- the layout, and all words: the open ones, those of the data blocks and those of the log blocks, each in the order of the addresses
 pub record Flat : Type 0 where
@@ -49,31 +50,37 @@ flat_of layout statics = record {
   words = replicate (open_words + block_words * (layout.verified + layout.private)) 0 ++ words_in statics ++ replicate (block_words * layout.log) 0;
 }
 
+-- In what follows the memory grants the rights of a mode.
+
 -- a word is fetched or loaded, and nothing changes
-abbrev pub ReadsWord : Access → Flat → ℕ → Result ℕ Stop → Flat → Type 0
-ReadsWord access old at answer new = (answer ≡ answered (word_refusal old.layout Ptr access at) (word_at old at)) × (new ≡ old)
+abbrev pub ReadsWord : Mode → Access → Flat → ℕ → Result ℕ Stop → Flat → Type 0
+ReadsWord mode access old at answer new = (answer ≡ answered (word_refusal old.layout mode access at) (word_at old at)) × (new ≡ old)
 
 -- a byte is loaded, and nothing changes
-abbrev pub ReadsByte : Flat → ℕ → Result ℕ Stop → Flat → Type 0
-ReadsByte old at answer new = (answer ≡ answered (byte_refusal old.layout Ptr Read at) (byte_in (word_at old at) at)) × (new ≡ old)
+abbrev pub ReadsByte : Mode → Flat → ℕ → Result ℕ Stop → Flat → Type 0
+ReadsByte mode old at answer new = (answer ≡ answered (byte_refusal old.layout mode Read at) (byte_in (word_at old at) at)) × (new ≡ old)
 
 -- a word is stored, and no other word changes; nothing does where it is refused
-abbrev pub WritesWord : Flat → ℕ → ℕ → Result (Unit {0}) Stop → Flat → Type 0
-WritesWord old at word answer new =
-    (answer ≡ answered (word_refusal old.layout Ptr Write at) tt) × (new ≡ unless_refused (word_refusal old.layout Ptr Write at) old (put old at word))
+abbrev pub WritesWord : Mode → Flat → ℕ → ℕ → Result (Unit {0}) Stop → Flat → Type 0
+WritesWord mode old at word answer new =
+    (answer ≡ answered (word_refusal old.layout mode Write at) tt) × (new ≡ unless_refused (word_refusal old.layout mode Write at) old (put old at word))
 
 -- a byte is stored, and no other byte changes; nothing does where it is refused
-abbrev pub WritesByte : Flat → ℕ → ℕ → Result (Unit {0}) Stop → Flat → Type 0
-WritesByte old at byte answer new =
-    (answer ≡ answered (byte_refusal old.layout Ptr Write at) tt)
-    × (new ≡ unless_refused (byte_refusal old.layout Ptr Write at) old (put old at (with_byte (word_at old at) at byte)))
+abbrev pub WritesByte : Mode → Flat → ℕ → ℕ → Result (Unit {0}) Stop → Flat → Type 0
+WritesByte mode old at byte answer new =
+    (answer ≡ answered (byte_refusal old.layout mode Write at) tt)
+    × (new ≡ unless_refused (byte_refusal old.layout mode Write at) old (put old at (with_byte (word_at old at) at byte)))
 
 -- what the five calls do
-abbrev pub flat_accesses : Accesses Flat
-flat_accesses = record {
-  fetch = ReadsWord Fetch;
-  load_word = ReadsWord Read;
-  load_byte = ReadsByte;
-  store_word = WritesWord;
-  store_byte = WritesByte;
+abbrev pub flat_accesses_in : Mode → Accesses Flat
+flat_accesses_in mode = record {
+  fetch = ReadsWord mode Fetch;
+  load_word = ReadsWord mode Read;
+  load_byte = ReadsByte mode;
+  store_word = WritesWord mode;
+  store_byte = WritesByte mode;
 }
+
+-- and what they do in the rights of the private tamper-resistant mode
+abbrev pub flat_accesses : Accesses Flat
+flat_accesses = flat_accesses_in Ptr

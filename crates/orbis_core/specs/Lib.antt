@@ -1,14 +1,13 @@
 pub mod Accesses
+pub mod ByteOrder
+pub mod Carrying
 pub mod Effects
 pub mod FlatIsIdeal
-pub mod FlatLaws
 pub mod FlatMemory
 pub mod Ideal
 pub mod IdealLaws
+pub mod OwnMemory
 pub mod Processor
 pub mod Refusals
 pub mod Rows
 pub mod Secure
-pub mod Soundness
-pub mod StepLaws
-pub mod Words

@@ -1,4 +1,4 @@
--- Why an access is refused.
+-- Promise: why an access is refused.
 use Rattle.std.specs.Prelude.{ℕ, ◌%◌, Bool, false, ◌==◌, if◌then◌else◌, Option, Some, None, option_map, unwrap_or, Result, Ok, Err}
 use Rattle.regions.specs.declared.Layout.{Layout}
 use Rattle.regions.specs.declared.Mode.{Mode}
@@ -28,7 +28,7 @@ abbrev pub answered : {T : Type 0} → Option Why → T → Result T Stop
 answered None value = Ok value
 answered (Some why) value = Err (Refused why)
 
--- what stands behind an access: the new, where it is not refused
+-- what stands after an access: the new, where it is not refused
 abbrev pub unless_refused : {T : Type 0} → Option Why → T → T → T
 unless_refused None old new = new
 unless_refused (Some why) old new = old

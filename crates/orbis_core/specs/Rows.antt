@@ -1,4 +1,4 @@
--- One step of the processor over a memory: one row of the instruction table, over the answers of the memory.
+-- Promise: one step of the processor over a memory: one row of the instruction table, over the answers of the memory.
 use Rattle.std.specs.Prelude.{◌≡◌, ◌≢◌, ℕ, ◌+◌, Option, Some, None, Result, Ok, Err}
 use Rattle.orbis_word.specs.declared.Instr.{Instr}
 use Rattle.orbis_word.specs.Reading.{instruction_in}
@@ -12,7 +12,7 @@ use Rattle.orbis_core.specs.declared.stepping.StepEnd.{StepEnd}
 use Rattle.orbis_core.specs.declared.stepping.StepEnd.TheVariants.{Next, Stopped}
 use Rattle.orbis_core.specs.Accesses.{Accesses}
 use Rattle.orbis_core.specs.Effects.{effect_of}
-use Rattle.orbis_core.specs.Processor.{Processor, written, advanced, core_behind}
+use Rattle.orbis_core.specs.Processor.{Processor, written, advanced, core_after}
 use Rattle.orbis_core.specs.Secure.{secure_of, secure_end, secure_core, secure_port}
 
 -- the processor, its memory and its input
@@ -20,6 +20,10 @@ pub record Machine (M : Type 0) : Type 0 where
   pub core : Processor
   pub memory : M
   pub port : Port
+
+-- a machine with another memory
+abbrev pub over : {M N : Type 0} → N → Machine M → Machine N
+over memory machine = record { core = machine.core; memory = memory; port = machine.port }
 
 -- the step ends so, with this processor and this port, and the memory stays as it is
 pub record Leaves {M : Type 0} (end : StepEnd) (processor : Processor) (input : Port) (old : Machine M) (result : StepEnd) (new : Machine M) : Type 0 where
@@ -32,12 +36,12 @@ pub record Leaves {M : Type 0} (end : StepEnd) (processor : Processor) (input : 
 abbrev pub IsStopped : {M : Type 0} → Stop → Machine M → StepEnd → Machine M → Type 0
 IsStopped stop old end new = Leaves (Stopped stop) old.core old.port old end new
 
--- how a step ends behind the answer of an access
-abbrev pub end_behind : {T : Type 0} → Result T Stop → StepEnd
-end_behind (Ok value) = Next
-end_behind (Err stop) = Stopped stop
+-- how a step ends after the answer of an access
+abbrev pub end_after : {T : Type 0} → Result T Stop → StepEnd
+end_after (Ok value) = Next
+end_after (Err stop) = Stopped stop
 
--- the processor behind the answer of a load, and behind that of a store
+-- the processor after the answer of a load, and after that of a store
 abbrev pub core_loaded : ℕ → Result ℕ Stop → Processor → Processor
 core_loaded d (Ok word) core = written core d word
 core_loaded d (Err stop) core = core
@@ -50,7 +54,7 @@ core_stored (Err stop) core = core
 pub record Loads {M : Type 0} (load : M → ℕ → Result ℕ Stop → M → Type 0) (d at : ℕ) (old : Machine M) (end : StepEnd) (new : Machine M) : Type 0 where
   pub answer : Result ℕ Stop
   pub loaded : load old.memory at answer new.memory
-  pub ends : end ≡ end_behind answer
+  pub ends : end ≡ end_after answer
   pub core : new.core ≡ core_loaded d answer old.core
   pub port : new.port ≡ old.port
 
@@ -58,7 +62,7 @@ pub record Loads {M : Type 0} (load : M → ℕ → Result ℕ Stop → M → Ty
 pub record Stores {M : Type 0} (store : M → ℕ → ℕ → Result (Unit {0}) Stop → M → Type 0) (at value : ℕ) (old : Machine M) (end : StepEnd) (new : Machine M) : Type 0 where
   pub answer : Result (Unit {0}) Stop
   pub stored : store old.memory at value answer new.memory
-  pub ends : end ≡ end_behind answer
+  pub ends : end ≡ end_after answer
   pub core : new.core ≡ core_stored answer old.core
   pub port : new.port ≡ old.port
 
@@ -71,14 +75,14 @@ Carries accesses (StoreByte at byte) old end new = Stores accesses.store_byte at
 Carries accesses DivideByZero old end new = IsStopped (Refused Divide) old end new
 Carries accesses (Secure f) old end new =
     Leaves (secure_end (secure_of f) old.core) (secure_core (secure_of f) old.port old.core) (secure_port (secure_of f) old.port) old end new
-Carries accesses effect old end new = Leaves Next (core_behind effect old.core) old.port old end new
+Carries accesses effect old end new = Leaves Next (core_after effect old.core) old.port old end new
 
--- behind a word: the row of the instruction that it is, or Illegal where it is none
+-- after a word: the row of the instruction that it is, or Illegal where it is none
 abbrev pub Executes : {M : Type 0} → Accesses M → Option Instr → Machine M → StepEnd → Machine M → Type 0
 Executes accesses (Some instruction) old end new = Carries accesses (effect_of instruction old.core) old end new
 Executes accesses None old end new = IsStopped (Refused Illegal) old end new
 
--- behind a fetch: what the word says, or the stop of the memory
+-- after a fetch: what the word says, or the stop of the memory
 abbrev pub GoesOn : {M : Type 0} → Accesses M → Result ℕ Stop → Machine M → StepEnd → Machine M → Type 0
 GoesOn accesses (Ok word) old end new = Executes accesses (instruction_in word) old end new
 GoesOn accesses (Err stop) old end new = IsStopped stop old end new
@@ -104,6 +108,6 @@ IsSettledEnd (Stopped (Tree event)) = ⊥
 IsSettledEnd (Stopped (Log event)) = ⊥
 IsSettledEnd end = Unit {0}
 
--- behind a step in which no check of the memory failed at most so many accesses fewer are left
+-- after a step in which no check of the memory failed at most so many accesses fewer are left
 abbrev pub LeavesFewer : {M : Type 0} → ℕ → (M → ℕ → Type 0) → M → StepEnd → M → Type 0
 LeavesFewer fewer has_left old end new = IsSettledEnd end → (n : ℕ) → has_left old (n + fewer) → has_left new n

@@ -22,7 +22,7 @@ pub enum Effect {
     Compare { flag: bool },
     /// The instruction at this address follows.
     Jump { to: u32 },
-    /// The same, and register 9 becomes the address behind this instruction.
+    /// The instruction at this address follows, and register 9 becomes the address after this one.
     Link { to: u32 },
     /// Register `d` becomes the word at this address.
     LoadWord { d: u8, at: u32 },

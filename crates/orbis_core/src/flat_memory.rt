@@ -2,7 +2,7 @@
 ghost use Rattle.std.specs.Prelude.{◌≡◌, ◌+◌, ◌*◌, ◌<◌, ◌++◌, IfOk, OnOk, length};
 ghost use Rattle.orbis_core.specs.FlatMemory.{flat_of, index_of, word_count};
 ghost use Rattle.orbis_core.specs.Refusals.{answered, byte_refusal, word_refusal};
-ghost use Rattle.orbis_core.specs.Words.{words_in};
+ghost use Rattle.orbis_core.specs.ByteOrder.{words_in};
 ghost use Rattle.regions.specs.declared.Mode.TheVariants.{Ptr};
 
 use crate::memory::{Memory, Stop, Why};

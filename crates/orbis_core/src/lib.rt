@@ -12,7 +12,7 @@ mod stepping;
 
 pub use effect::Effect;
 pub use flat_memory::FlatMemory;
-pub use laws::{flat_is_ideal, ideal_runs};
+pub use laws::{Carries, flat_is_ideal, ideal_runs, ideal_steps, own_memory_is_ideal, steps_carry};
 pub use memory::{Memory, Stop, Why};
 pub use port::Port;
 pub use processor::Core;

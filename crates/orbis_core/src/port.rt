@@ -12,7 +12,7 @@ pub struct Port<'a> {
 }
 
 impl Port<'_> {
-    /// The next byte, or -1 behind the last one.
+    /// The next byte, or -1 after the last one.
     pub(crate) fn read(&mut self) -> u32
         ensures word { result ≡ input_word self.old }
         ensures port { self.new ≡ port_read self.old }

@@ -1,7 +1,7 @@
 //! The core: program counter, flag and registers.
-ghost use Rattle.std.specs.Prelude.{◌≡◌, ◌<◌, false, replicate};
-ghost use Rattle.orbis_core.specs.Processor.{IsProcessor, advanced, core_behind, next_pc, register, with_register, written};
-ghost use Rattle.orbis_core.specs.Rows.{core_loaded, core_stored, end_behind};
+ghost use Rattle.std.specs.Prelude.{◌≡◌, ◌<◌};
+ghost use Rattle.orbis_core.specs.Processor.{IsProcessor, advanced, core_after, next_pc, register, reset_core, with_register, written};
+ghost use Rattle.orbis_core.specs.Rows.{core_loaded, core_stored, end_after};
 
 use crate::effect::Effect;
 use crate::memory::Stop;
@@ -35,7 +35,7 @@ impl Model for Core {
 impl Core {
     /// A core about to run the instruction at an address: all registers zero, the flag clear.
     pub fn new(pc: u32) -> Core
-        ensures { result ≡ record { pc = pc; flag = false; registers = replicate 32 0 } }
+        ensures { result ≡ reset_core pc }
     {
         Core {
             pc,
@@ -70,7 +70,7 @@ impl Core {
         }
     }
 
-    /// The address behind this instruction.
+    /// The address after this instruction.
     pub(crate) fn next_pc(&self) -> u32
         ensures { result ≡ next_pc self.now }
     {
@@ -99,7 +99,7 @@ impl Core {
     /// Sets or clears the flag, and goes on to the next instruction.
     pub(crate) fn compare_as(&mut self, flag: bool) -> StepEnd
         ensures end { result ≡ StepEnd.Next }
-        ensures core { self.new ≡ core_behind (Effect.Compare flag) self.old }
+        ensures core { self.new ≡ core_after (Effect.Compare flag) self.old }
     {
         self.flag = flag;
         self.advance()
@@ -108,26 +108,26 @@ impl Core {
     /// Goes on to the instruction at an address.
     pub(crate) fn jump(&mut self, to: u32) -> StepEnd
         ensures end { result ≡ StepEnd.Next }
-        ensures core { self.new ≡ core_behind (Effect.Jump to) self.old }
+        ensures core { self.new ≡ core_after (Effect.Jump to) self.old }
     {
         self.pc = to;
         StepEnd::Next
     }
 
-    /// The same, with the address behind this instruction in register 9.
+    /// Goes on to the instruction at an address, with the address after this one in register 9.
     pub(crate) fn link(&mut self, to: u32) -> StepEnd
         ensures end { result ≡ StepEnd.Next }
-        ensures core { self.new ≡ core_behind (Effect.Link to) self.old }
+        ensures core { self.new ≡ core_after (Effect.Link to) self.old }
     {
-        let behind = self.next_pc();
-        self.set_register(9, behind);
+        let link = self.next_pc();
+        self.set_register(9, link);
         self.jump(to)
     }
 
     /// Ends a load to a register by the answer of the memory.
     pub(crate) fn take(&mut self, d: u8, answer: Result<u32, Stop>) -> StepEnd
         requires { d < 32 }
-        ensures end { result ≡ end_behind answer }
+        ensures end { result ≡ end_after answer }
         ensures core { self.new ≡ core_loaded d answer self.old }
     {
         match answer {
@@ -138,7 +138,7 @@ impl Core {
 
     /// Ends a store by the answer of the memory.
     pub(crate) fn go_on(&mut self, answer: Result<(), Stop>) -> StepEnd
-        ensures end { result ≡ end_behind answer }
+        ensures end { result ≡ end_after answer }
         ensures core { self.new ≡ core_stored answer self.old }
     {
         match answer {

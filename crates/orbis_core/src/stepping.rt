@@ -15,7 +15,7 @@ use crate::processor::Core;
 pub enum StepEnd {
     /// The instruction was done, and the next one follows.
     Next,
-    /// The input instruction was done: register 11 is the next byte of the port, or -1 behind the last one.
+    /// The input instruction was done: register 11 is the next byte of the port, or -1 after the last one.
     Input,
     /// The instruction released this byte, and the next one follows.
     Released(u8),
@@ -41,7 +41,7 @@ pub enum StepEnd {
 }
 
 /// Fetches the word at the program counter and does its row of the instruction table.
-/// The program counter moves on by 4, modulo 2 to the 32nd, behind each instruction that is done and is no jump, the
+/// The program counter moves on by 4, modulo 2 to the 32nd, after each instruction that is done and is no jump, the
 /// secure instructions included.
 pub fn step<M: Memory>(core: &mut Core, mem: &mut M, port: &mut Port) -> StepEnd
     requires left { M.has_left mem.old 2 }
@@ -56,7 +56,7 @@ pub fn step<M: Memory>(core: &mut Core, mem: &mut M, port: &mut Port) -> StepEnd
     ensures left { LeavesFewer 2 M.has_left mem.old result mem.new }
     ensures port { port.new.next ≤ length port.new.input.now }
 
-    // The registers are 32, and register 0 reads zero, before the step and behind it.
+    // The registers are 32, and register 0 reads zero, before the step and after it.
     ensures whole { IsProcessor core.old }
     ensures kept { IsProcessor core.new }
 {

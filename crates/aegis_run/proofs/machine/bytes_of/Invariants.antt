@@ -1,5 +1,5 @@
 use Rattle.std.proofs.Common.{◌≡◌, take}
-use Rattle.orbis_core.specs.FlatLaws.{bytes_of}
+use Rattle.orbis_core.specs.ByteOrder.{bytes_of}
 use Rattle.aegis_run.proofs.machine.bytes_of.Given as goal
 
 abbrev pub invariant-loop-word : goal.invariant-loop-word

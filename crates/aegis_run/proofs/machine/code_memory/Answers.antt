@@ -1,6 +1,6 @@
 use Rattle.std.proofs.Common.{◌≡◌, ◌*◌, length, refl, ap, ◌∙◌, arith}
 use Rattle.std.proofs.lemmas.Result.{IfOk-weaker}
-use Rattle.orbis_core.specs.FlatLaws.{length-bytes_of}
+use Rattle.orbis_core.proofs.FlatLaws.{length-bytes_of}
 use Rattle.aegis_run.proofs.MachineLemmas.{holds_code}
 use Rattle.aegis_run.proofs.machine.code_memory.Goals as goal
 

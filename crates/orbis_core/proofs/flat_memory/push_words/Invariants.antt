@@ -1,5 +1,5 @@
 use Rattle.std.proofs.Common.{◌≡◌, ◌++◌, length}
-use Rattle.orbis_core.specs.Words.{words_in}
+use Rattle.orbis_core.specs.ByteOrder.{words_in}
 use Rattle.orbis_core.proofs.flat_memory.push_words.Given as goal
 
 abbrev pub invariant-loop-rest : goal.invariant-loop-rest

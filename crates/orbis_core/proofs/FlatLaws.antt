@@ -2,8 +2,7 @@
 use Rattle.std.proofs.Common.{◌≡◌, ℕ, ◌+◌, ◌*◌, ◌/◌, ◌%◌, ◌^◌, ◌<◌, ◌≤◌, List, [], ◌∷◌, ◌++◌, length, get_or, replicate, Some, None, refl, ap, arith, append_assoc}
 use Rattle.std.proofs.lemmas.Bool.Decides.{nat_tests}
 use Rattle.std.proofs.lemmas.List.{length-replicate, get_or-append-add, get_or_append_left}
-use Rattle.std.specs.Int.{w32, to_be_bytes}
-use Rattle.std.specs.List.{AllByRecursion, flat_map}
+use Rattle.std.specs.List.{AllByRecursion}
 use Rattle.regions.specs.declared.Layout.{Layout}
 use Rattle.regions.specs.declared.Class.TheVariants.{Constant, Code}
 use Rattle.regions.specs.declared.Mode.TheVariants.{Ptr}
@@ -13,7 +12,7 @@ use Rattle.regions.proofs.AddressLaws.{class_at-LiesIn}
 use Rattle.regions.specs.Blocks.{data_blocks}
 use Rattle.orbis_core.specs.FlatMemory.{flat_of, word_at, index_of, open_words, block_words}
 use Rattle.orbis_core.specs.Refusals.{word_refusal}
-use Rattle.orbis_core.specs.Words.{words_in, word_of_bytes}
+use Rattle.orbis_core.specs.ByteOrder.{bytes_of, words_in, word_of_bytes}
 
 -- four bytes make a word
 pub length-words_in : (bytes : List ℕ) → length (words_in bytes) ≡ length bytes / 4
@@ -22,10 +21,6 @@ length-words_in (a ∷ []) = refl
 length-words_in (a ∷ b ∷ []) = refl
 length-words_in (a ∷ b ∷ c ∷ []) = refl
 length-words_in (a ∷ b ∷ c ∷ d ∷ bytes) = omega (arith, length-words_in bytes)
-
--- the big-endian bytes of some words
-abbrev pub bytes_of : List ℕ → List ℕ
-bytes_of words = flat_map (to_be_bytes w32) words
 
 -- a word is the word of its bytes
 word-to_be_bytes : (n : ℕ) → n < 2 ^ 32 → word_of_bytes (n / 16777216 % 256) (n / 65536 % 256) (n / 256 % 256) (n % 256) ≡ n
