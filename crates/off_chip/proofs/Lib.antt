@@ -1,6 +1,7 @@
 pub mod AnswerLemmas
 pub mod ByteLemmas
 pub mod HistoryLemmas
+pub mod HonestLemmas
 pub mod PlainMemory
 pub mod SplitLemmas
 pub mod BoundaryLemmas

@@ -8,6 +8,7 @@ pub mod ExchangedWords
 pub mod ExpectedDigests
 pub mod FaithfulReads
 pub mod Histories
+pub mod HonestMemory
 pub mod KeptEvents
 pub mod OffChipBytes
 pub mod OneEventMore

@@ -9,6 +9,7 @@ ghost use Rattle.off_chip.specs.Residency.{ResidencyInOrder};
 ghost use Rattle.off_chip.specs.ExpectedDigests.{DigestsInOrder};
 ghost use Rattle.off_chip.specs.Epochs.{EpochsInOrder};
 ghost use Rattle.off_chip.specs.OneEventMore.{OneEventMore};
+ghost use Rattle.off_chip.specs.HonestMemory.{PlainIsHonest};
 
 /// What holds at each event and at some points, and the last part of a trace that is cut.
 pub fn histories_in_order()
@@ -53,4 +54,9 @@ pub fn epochs_in_order()
 /// What one more event changes.
 pub fn one_event_more()
     ensures changes { OneEventMore }
+{}
+
+/// A memory that answers each read with its last write, or with what it began with, is honest.
+pub fn plain_is_honest()
+    ensures law { PlainIsHonest }
 {}
