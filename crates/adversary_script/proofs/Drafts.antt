@@ -40,15 +40,15 @@ allows_with latest (Suspend j) Start allowed = and-false _ ∙ sym (and-false _)
 allows_with latest (Suspend j) (At k) allowed = and-true _
 allows_with latest (Suspend j) (Suspend k) allowed = latest_reaches latest.suspend j k allowed
 
--- changes in order, and one more behind them
+-- changes in order, and one more after them
 are_in_order-push : (changes : List Change) (change : Change) → are_in_order changes ≡ true → is_in_order changes change ≡ true → are_in_order (changes ++ change ∷ []) ≡ true
-are_in_order-push [] change order behind = refl
-are_in_order-push (first ∷ changes) change order behind =
+are_in_order-push [] change order last = refl
+are_in_order-push (first ∷ changes) change order last =
     let orders = and_parts (list_all (λ later. may_precede first.when later.when) changes) (are_in_order changes) order in
-    let behinds = and_parts (may_precede first.when change.when) (is_in_order changes change) behind in
+    let lasts = and_parts (may_precede first.when change.when) (is_in_order changes change) last in
     let more : list_all (λ later. may_precede first.when later.when) (changes ++ change ∷ []) ≡ true =
-    list_all-append (λ later. may_precede first.when later.when) changes (change ∷ []) ∙ and_from _ _ orders.0 (and_from _ _ behinds.0 refl) in
-    and_from _ _ more (are_in_order-push changes change orders.1 behinds.1)
+    list_all-append (λ later. may_precede first.when later.when) changes (change ∷ []) ∙ and_from _ _ orders.0 (and_from _ _ lasts.0 refl) in
+    and_from _ _ more (are_in_order-push changes change orders.1 lasts.1)
 
 -- a change that keeps the rules passes each test
 abbrev tested : Bool → Bool → Bool → Result (Unit {0}) Fault

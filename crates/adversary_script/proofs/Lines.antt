@@ -50,12 +50,12 @@ fault_told OutOfMemory n outcome is told = absurd (told refl)
 
 module _ (n : ℕ) (before : List Change) (rest line further : List ℕ) (total : Result (List Change) ScriptError)
     (so_far : changes_from n before (lines rest) ≡ total) (first : lines rest ≡ line ∷ lines further) where
-  -- the first line and those behind it
+  -- the first line and those after it
   by_line : and_then n (λ changes. changes_from (n + 1) changes (lines further)) (read_line before line) ≡ total
   unfolding changes_from
   by_line = sym (ap (changes_from n before) first) ∙ so_far
 
-  -- behind a line that is read
+  -- after a line that is read
   pub told_further : (changes : List Change) → read_line before line ≡ Ok changes → changes_from (n + 1) changes (lines further) ≡ total
   unfolding and_then
   told_further changes read = sym (ap (and_then n (λ changes. changes_from (n + 1) changes (lines further))) read) ∙ by_line
@@ -65,7 +65,7 @@ module _ (n : ℕ) (before : List Change) (rest line further : List ℕ) (total 
   unfolding and_then
   told_fault fault is told = sym by_line ∙ ap (and_then n (λ changes. changes_from (n + 1) changes (lines further))) (fault_told fault n (read_line before line) is told)
 
--- behind the last line
+-- after the last line
 pub told_end : (n : ℕ) (before : List Change) (rest : List ℕ) (total : Result (List Change) ScriptError) → changes_from n before (lines rest) ≡ total → length rest ≡ 0 → total ≡ Ok before
 unfolding changes_from
 told_end n before [] total so_far none = sym so_far

@@ -121,9 +121,9 @@ past_slots : script_of (both (codes "at 0 save 15 log 0") (codes "start save 16 
 unfolding script_computes
 past_slots = refl
 
-start_behind : script_of (both (codes "suspend 7 save 0 log 0") (codes "start save 0 log 0")) ≡ Err (Order 2)
+start_after : script_of (both (codes "suspend 7 save 0 log 0") (codes "start save 0 log 0")) ≡ Err (Order 2)
 unfolding script_computes
-start_behind = refl
+start_after = refl
 
 -- the last places that there are
 last_places : script_of (both (codes "start open 65535 00") (codes "start log 0 71 00"))

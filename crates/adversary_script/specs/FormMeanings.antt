@@ -1,4 +1,4 @@
--- What the code's values mean.
+-- Device: what the code's values mean.
 use Rattle.std.specs.Prelude.{◌≡◌, ℕ, List, Result, Ok, Err, map}
 use Rattle.std.specs.Borrow.{Bor}
 use Rattle.adversary_script.specs.declared.fault.Fault.{Fault}

@@ -1,4 +1,4 @@
--- What is remembered of earlier changes, so that the next one can be tested at once.
+-- Device: what is remembered of earlier changes, so that the next one can be tested at once.
 use Rattle.std.specs.Prelude.{◌≡◌, ℕ, nat_le, Bool, true, ◌&&◌, List, Option, None, Some, is_none}
 use Rattle.std.specs.List.{list_all}
 use Rattle.adversary_script.specs.declared.change.When.{When}
@@ -12,7 +12,7 @@ abbrev pub reaches : Option ℕ → ℕ → Bool
 reaches None n = true
 reaches (Some m) n = nat_le m n
 
--- whether a change at this moment is in order behind the latest ones
+-- whether a change at this moment is in order after the latest ones
 abbrev pub allows : Latest → When → Bool
 allows latest Start = is_none latest.at && is_none latest.suspend
 allows latest (At n) = reaches latest.at n

@@ -1,4 +1,4 @@
--- The fields of a line, and what a number and bytes in hexadecimal are.
+-- Promise: the fields of a line, and what a number and bytes in hexadecimal are.
 use Rattle.std.specs.Prelude.{ℕ, ◌==◌, nat_eq, nat_le, nat_lt, Bool, ◌&&◌, ◌||◌, List, length, drop, filter, codes, Option, Some, None, if◌then◌else◌}
 use Rattle.std.specs.List.{list_all, slice_split, starts_with}
 use Rattle.std.specs.Result.{result_ok}

@@ -1,4 +1,4 @@
--- The grammar of a line: its words, and where its numbers and its bytes stand. These are still fields.
+-- Promise: the grammar of a line: its words, and where its numbers and its bytes stand. These are still fields.
 use Rattle.std.specs.Prelude.{ℕ, List, [], ◌∷◌, codes, Option, Some, None, option_map, if◌then◌else◌}
 use Rattle.std.specs.Str.{bytes_eq}
 use Rattle.adversary_script.specs.declared.form.Kind.{Kind}
@@ -63,11 +63,11 @@ change_form (word ∷ first ∷ second ∷ third ∷ fourth ∷ []) =
     if bytes_eq word (codes "copy") then copy_of (block_form first second) (block_form third fourth) else None
 change_form fields = None
 
--- a moment, and a change behind it
+-- a moment, and a change after it
 unfoldable pub moment_with : MomentForm → Option ChangeForm → Option LineForm
 moment_with moment change = option_map (λ change. record { moment = moment; change = change }) change
 
--- a moment with a number, and a change behind it
+-- a moment with a number, and a change after it
 unfoldable pub numbered : (List ℕ → MomentForm) → List (List ℕ) → Option LineForm
 numbered moment [] = None
 numbered moment (number ∷ fields) = moment_with (moment number) (change_form fields)

@@ -1,4 +1,4 @@
--- Scripts: the changes of a text, line by line, and the fault of the first line that has one.
+-- Promise: the changes of a text, line by line, and the fault of the first line that has one.
 -- Of the faults of one line the first is answered, in the order Line, Number, Hex, Range, Order, TooMany.
 use Rattle.std.specs.Prelude.{ℕ, ◌+◌, nat_eq, nat_le, nat_lt, Bool, not, ◌&&◌, List, [], ◌∷◌, ◌++◌, length, codes, Option, Some, None, Result, Ok, Err, if◌then◌else◌}
 use Rattle.std.specs.List.{list_all, starts_with}
@@ -89,7 +89,7 @@ change form = do
   what ← deed form.change
   Ok (record { when = when; what = what })
 
--- it stands behind no earlier change that it has to precede
+-- it stands after no earlier change that it has to precede
 abbrev pub is_in_order : List Change → Change → Bool
 is_in_order before change = list_all (λ earlier. may_precede earlier.when change.when) before
 
@@ -98,7 +98,7 @@ abbrev pub has_room : List Change → Change → Bool
 has_room before change =
     nat_lt (length before) MAX_CHANGES && nat_le (all_bytes_written before + bytes_written change.what) MAX_CHANGE_BYTES
 
--- whether a change keeps the rules behind earlier ones
+-- whether a change keeps the rules after earlier ones
 unfoldable pub ruled : List Change → Change → Result (Unit {0}) Fault
 ruled before change =
     if not (is_in_range change.what) then Err Range
@@ -138,7 +138,7 @@ fault_at n Order = error.Order n
 fault_at n TooMany = error.TooMany n
 fault_at n OutOfMemory = error.OutOfMemory
 
--- further lines behind the line with this number, whose fault comes first
+-- further lines after the line with this number, whose fault comes first
 unfoldable pub and_then : ℕ → (List Change → Result (List Change) ScriptError) → Result (List Change) Fault → Result (List Change) ScriptError
 and_then n further (Ok changes) = further changes
 and_then n further (Err fault) = Err (fault_at n fault)

@@ -1,4 +1,4 @@
--- The rules that a script keeps: the changes are in range, in order, and not too many.
+-- Promise: the rules that a script keeps: the changes are in range, in order, and not too many.
 use Rattle.std.specs.Prelude.{◌≡◌, ℕ, ◌+◌, ◌≤◌, nat_le, nat_lt, Bool, true, false, ◌&&◌, List, [], ◌∷◌, length, sum_by}
 use Rattle.std.specs.List.{list_all}
 use Rattle.aegis_num.specs.declared.limits.TheConstants.{MAX_CHANGES, MAX_CHANGE_BYTES, SAVE_SLOTS}
@@ -17,7 +17,7 @@ is_in_range (Save slot target) = nat_lt slot SAVE_SLOTS
 is_in_range (Back slot target) = nat_lt slot SAVE_SLOTS
 is_in_range (Copy from to) = true
 
--- `start` stands behind neither `at` nor `suspend`, and neither stands behind a greater number of its kind
+-- `start` stands after neither `at` nor `suspend`, and neither stands after a greater number of its kind
 abbrev pub may_precede : When → When → Bool
 may_precede Start later = true
 may_precede (At m) Start = false
@@ -39,7 +39,7 @@ bytes_written (Copy from to) = 0
 abbrev pub all_bytes_written : List Change → ℕ
 all_bytes_written changes = sum_by (λ change. bytes_written change.what) changes
 
--- each change may stand behind each earlier one
+-- each change may stand after each earlier one
 abbrev pub are_in_order : List Change → Bool
 are_in_order [] = true
 are_in_order (change ∷ changes) = list_all (λ later. may_precede change.when later.when) changes && are_in_order changes

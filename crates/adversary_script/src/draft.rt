@@ -46,7 +46,7 @@ impl Draft {
         }
     }
 
-    /// Whether a change keeps the rules behind these.
+    /// Whether a change keeps the rules after these.
     #[tactic(auto, unfolding(crate::specs::ScriptGrammar::ruled))]
     fn rule(&self, change: &Change) -> Result<(), Fault>
         ensures { result ≡ ruled self.now change.now }

@@ -17,7 +17,7 @@ pub enum ScriptError {
     /// Bytes beyond the 65,536 open ones or beyond the 72 of a block, or a slot above 15.
     #[error("line {n}: a place or a slot is out of range")]
     Range { n: u32 },
-    /// A `start` behind an `at` or `suspend` line, or a number below that of an earlier line of its kind.
+    /// A `start` after an `at` or `suspend` line, or a number below that of an earlier line of its kind.
     #[error("line {n}: the change comes behind a later one")]
     Order { n: u32 },
     /// The 4,097th change, or more than 65,536 bytes of all changes.

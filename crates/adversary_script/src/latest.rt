@@ -25,7 +25,7 @@ impl Latest {
     ghost use Rattle.std.specs.Prelude.{◌≡◌};
     ghost use Rattle.adversary_script.specs.LatestMoments.{allows, latest_with};
 
-    /// Whether a change at this moment is in order behind the latest ones.
+    /// Whether a change at this moment is in order after the latest ones.
     pub fn allows(self, when: When) -> bool
         ensures { result ≡ allows self when }
     {

@@ -4,7 +4,7 @@ use Rattle.regions.specs.declared.layout.Layout.{Layout}
 use Rattle.off_chip.specs.declared.event.Event.{Event}
 use Rattle.off_chip.specs.AnsweredReads.{Holds, after_event, after_events, IsAnswered}
 
--- the memory behind one event more
+-- the memory after one event more
 pub after_events-more : (layout : Layout) (events : List Event) (event : Event) (memory : List ℕ) → after_events layout (events ++ event ∷ []) memory ≡ after_event layout event (after_events layout events memory)
 after_events-more layout [] event memory = refl
 after_events-more layout (first ∷ events) event memory = after_events-more layout events event (after_event layout first memory)

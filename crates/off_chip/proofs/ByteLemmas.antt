@@ -19,7 +19,7 @@ length-put at bytes memory within =
       length-drop (at + length bytes) memory,
     )
 
--- bytes put behind bytes that were put
+-- bytes put right after bytes that were put
 pub put-put : (at : ℕ) (xs ys memory : List ℕ) (next : ℕ) → next ≡ at + length xs → next ≤ length memory → put next ys (put at xs memory) ≡ put at (xs ++ ys) memory
 put-put at xs ys memory next is within =
     let front : length (take at memory) ≡ at = length-take-le at memory (omega arith) in
@@ -30,7 +30,7 @@ put-put at xs ys memory next is within =
     ap (take next) regroup ∙ take_at (take at memory ++ xs) rest next long in
     let dropped : drop next (put at xs memory) ≡ rest =
     ap (drop next) regroup ∙ drop_at (take at memory ++ xs) rest next long in
-    let behind : drop (next + length ys) (put at xs memory) ≡ drop (at + length (xs ++ ys)) memory =
+    let further : drop (next + length ys) (put at xs memory) ≡ drop (at + length (xs ++ ys)) memory =
     sym (drop-drop (length ys) next (put at xs memory)) ∙ ap (drop (length ys)) dropped ∙ drop-drop (length ys) (at + length xs) memory
     ∙ ap (λ n. drop n memory) (omega (arith, length-append xs ys)) in
     let all : put next ys (put at xs memory) ≡ (take at memory ++ xs) ++ (ys ++ drop (at + length (xs ++ ys)) memory) = cc in

@@ -35,7 +35,7 @@ starts : (start_of_place layout (Tree 0) ≡ 65536) × (start_of_place layout (T
 unfolding height_of
 starts = (refl, refl, refl, refl, refl)
 
--- the block of constants stands behind the verified one, and the block of code behind it
+-- the block of constants stands after the verified one, and the block of code after it
 statics : (static_place layout 0 ≡ Tree 2) × (static_place layout 1 ≡ Tree 3) × (tree_blocks layout ≡ 4)
 unfolding height_of
 statics = (refl, refl, refl)
@@ -43,7 +43,7 @@ statics = (refl, refl, refl)
 static_stamp : (static_block (7 ∷ 8 ∷ []) 0).stamp ≡ 0
 static_stamp = refl
 
--- the stamp stands behind the payload, its greatest byte first
+-- the stamp stands after the payload, its greatest byte first
 stored_block : stored (record { payload = 7 ∷ 8 ∷ []; stamp = 0x0102030405060708 }) ≡ 7 ∷ 8 ∷ 1 ∷ 2 ∷ 3 ∷ 4 ∷ 5 ∷ 6 ∷ 7 ∷ 8 ∷ []
 stored_block = refl
 

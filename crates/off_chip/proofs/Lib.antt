@@ -15,3 +15,4 @@ pub mod EpochLemmas
 pub mod MoreLemmas
 mod Examples
 mod Worked
+pub mod BusLemmas

@@ -1,14 +1,15 @@
 -- Device: what the fields of a plain memory keep.
 use Rattle.std.specs.Prelude.{ℕ, ◌≡◌, List, length}
 use Rattle.regions.specs.declared.layout.Layout.{Layout}
-use Rattle.off_chip.specs.declared.event.Event.{Event}
 use Rattle.regions.specs.Tree.{tree_blocks}
+use Rattle.off_chip.specs.declared.event.Event.{Event}
 use Rattle.off_chip.specs.OffChipBytes.{loaded, size_of}
-use Rattle.off_chip.specs.AnsweredReads.{after_events, IsAnswered}
+use Rattle.off_chip.specs.AnsweredReads.{after_events}
+use Rattle.off_chip.specs.HonestMemory.{IsPlainTrace}
 
--- the bytes are these, and they answered each read
+-- the bytes are those after the events, and the trace is one of a plain memory
 pub record IsPlainMemory (layout : Layout) (statics memory : List ℕ) (trace : List Event) (in_tree : ℕ) : Type 0 where
   pub counted : in_tree ≡ tree_blocks layout
   pub size : length memory ≡ size_of layout
   pub bytes : memory ≡ after_events layout trace (loaded layout statics)
-  pub answered : IsAnswered layout trace (loaded layout statics)
+  pub plain : IsPlainTrace layout statics trace

@@ -5,12 +5,12 @@ ghost use Rattle.regions.specs.declared.layout.Layout.{Layout};
 ghost use Rattle.off_chip.specs.declared.event.Event.{Event as SomeEvent};
 ghost use Rattle.off_chip.specs.declared.event.Event.TheVariants.{BlockRead, BlockWrite, WordRead, WordWrite, Note};
 ghost use Rattle.off_chip.specs.OffChipBytes.{IsWordAddress};
-ghost use Rattle.off_chip.specs.BusCalls.{AppendsOne, IsInside, HoldsTold};
+ghost use Rattle.off_chip.specs.BusCalls.{AppendsOne, IsInside, IsMarkInside, HoldsTold};
 
 use crate::event::{Mark, Who};
 use aegis_num::{Block, Place};
 
-/// Off-chip memory behind a bus, with the trace of all events since it was made.
+/// Off-chip memory at a bus, with the trace of all events since it was made.
 ///
 /// Nothing is promised of what a read gives: the memory is not trusted.
 /// No call takes memory, and none is refused: for each event there has to be room.
@@ -77,6 +77,7 @@ pub trait OffChip {
     /// Notes a mark. Nothing goes over the bus.
     fn note(&mut self, mark: Mark)
         requires has_room { 0 < room self.old }
+        requires inside { IsMarkInside (layout self.old) mark }
         ensures event { AppendsOne (Note mark)
             (trace self.old) (room self.old) (trace self.new) (room self.new) }
         ensures same { same_memory self.old self.new };

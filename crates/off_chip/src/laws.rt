@@ -1,5 +1,8 @@
 //! Laws of what is said of a trace. Most definitions go back over the history; where the subject's own sentence goes over the trace
 //! in order, it is defined too, and these functions do nothing but state that the two say the same.
+ghost use Rattle.std.specs.Prelude.{◌≡◌};
+ghost use Rattle.off_chip.specs.BusCalls.{ToldLayouts};
+ghost use Rattle.off_chip.specs.PlainValues.{Plain};
 ghost use Rattle.off_chip.specs.Histories.{HistoriesInOrder};
 ghost use Rattle.off_chip.specs.Boundaries.{BoundariesInOrder};
 ghost use Rattle.off_chip.specs.WriteBacks.{WritesInOrder};
@@ -10,6 +13,9 @@ ghost use Rattle.off_chip.specs.ExpectedDigests.{DigestsInOrder};
 ghost use Rattle.off_chip.specs.Epochs.{EpochsInOrder};
 ghost use Rattle.off_chip.specs.OneEventMore.{OneEventMore};
 ghost use Rattle.off_chip.specs.HonestMemory.{PlainIsHonest};
+
+use crate::bus::OffChip;
+use crate::plain::PlainDram;
 
 /// What holds at each event and at some points, and the last part of a trace that is cut.
 pub fn histories_in_order()
@@ -59,4 +65,17 @@ pub fn one_event_more()
 /// A memory that answers each read with its last write, or with what it began with, is honest.
 pub fn plain_is_honest()
     ensures law { PlainIsHonest }
+{}
+
+/// What a layout that a bus tells gives to a tree and to a log.
+pub fn told_layouts()
+    ensures law { ToldLayouts }
+{}
+
+/// Two states of one plain memory have the same layout and began with the same static blocks.
+pub fn same_plain_memory()
+    ensures layout { (a b : Plain) → ⟦<PlainDram as OffChip>⟧.same_memory a b → a.layout ≡ b.layout }
+    ensures statics { (a b : Plain) → ⟦<PlainDram as OffChip>⟧.same_memory a b → a.statics ≡ b.statics }
+    ensures holds { (a b : Plain) → a.layout ≡ b.layout → a.statics ≡ b.statics
+        → ⟦<PlainDram as OffChip>⟧.same_memory a b }
 {}

@@ -1,7 +1,7 @@
 //! A memory that answers each read with the last write there.
 ghost use Rattle.std.specs.Prelude.{◌≡◌, ◌*◌, ◌+◌, ◌<◌, ◌^◌, [], length, IfOk, Some};
 ghost use Rattle.off_chip.specs.OffChipBytes.{loaded, static_blocks};
-ghost use Rattle.off_chip.specs.AnsweredReads.{IsAnswered};
+ghost use Rattle.off_chip.specs.HonestMemory.{IsPlainTrace};
 
 use crate::bus::OffChip;
 use crate::event::{Event, Mark, Who};
@@ -72,8 +72,9 @@ impl PlainDram {
     pub fn into_trace(self) -> Trace
         ensures events { result ≡ self.trace }
 
-        // Each read holds the last write at its place, or what stood there when the memory was made.
-        ensures answered { IsAnswered self.layout result (loaded self.layout self.statics) }
+        // Each read holds the last write at its place, or what stood there when the memory was made, and each event
+        // names a place that there is: such a memory is honest, as `plain_is_honest` says.
+        ensures plain { IsPlainTrace self.layout self.statics result }
     {
         self.recorder.into_trace()
     }

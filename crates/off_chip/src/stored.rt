@@ -1,9 +1,10 @@
 //! Where blocks and words stand in off-chip memory, and how. A number has its greatest byte first, as in the
 //! OpenRISC 1000 architecture (manual, section 3.2, big-endian byte order).
-ghost use Rattle.std.specs.Prelude.{◌≡◌, ◌+◌, ◌*◌, ◌≤◌, ◌<◌, length};
+ghost use Rattle.std.specs.Prelude.{◌≡◌, ◌+◌, ◌*◌, ◌≤◌, ◌<◌, ◌^◌, length};
 ghost use Rattle.std.specs.Int.{w32, w64, to_be_bytes};
 ghost use Rattle.regions.specs.declared.addresses.TheConstants.{STORED_BLOCK_BYTES};
 ghost use Rattle.regions.specs.Tree.{tree_blocks};
+ghost use Rattle.off_chip.specs.HonestMemory.{IsWhole};
 ghost use Rattle.off_chip.specs.OffChipBytes.{HasPlace, bytes_at, put, size_of, start_in, static_block, static_blocks, static_place, stored};
 
 use aegis_num::{Block, Place};
@@ -57,7 +58,8 @@ fn stamp_at(memory: &[u8], at: usize) -> u64
 // Puts a stamp over the one at `at`.
 fn put_stamp(memory: &mut [u8], at: usize, stamp: u64)
     requires { at + 8 ≤ length memory.old }
-    ensures { memory.new ≡ put at (to_be_bytes w64 stamp) memory.old }
+    ensures bytes { memory.new ≡ put at (to_be_bytes w64 stamp) memory.old }
+    ensures limit { stamp < 2 ^ 64 }
 {
     memory[at..at + STAMP_BYTES].copy_from_slice(&stamp.to_be_bytes());
 }
@@ -73,7 +75,8 @@ fn put_payload(memory: &mut [u8], at: usize, payload: &[u8; PAYLOAD_BYTES])
 /// The block that stands at `start`.
 pub(crate) fn block_at(memory: &[u8], start: usize) -> Block
     requires { start + STORED_BLOCK_BYTES ≤ length memory.now }
-    ensures { stored result ≡ bytes_at start STORED_BLOCK_BYTES memory.now }
+    ensures bytes { stored result ≡ bytes_at start STORED_BLOCK_BYTES memory.now }
+    ensures whole { IsWhole result }
 {
     let mut payload = [0; PAYLOAD_BYTES];
     payload.copy_from_slice(&memory[start..start + PAYLOAD_BYTES]);
@@ -88,6 +91,7 @@ pub(crate) fn put_block(memory: &mut [u8], start: usize, block: &Block)
     requires { start + STORED_BLOCK_BYTES ≤ length memory.old }
     ensures bytes { memory.new ≡ put start (stored block.now) memory.old }
     ensures long { length (stored block.now) ≡ STORED_BLOCK_BYTES }
+    ensures whole { IsWhole block.now }
 {
     put_payload(memory, start, &block.payload);
     put_stamp(memory, start + PAYLOAD_BYTES, block.stamp);

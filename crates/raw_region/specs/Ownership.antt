@@ -1,4 +1,4 @@
--- What the block of a region owns and lends.
+-- Device: what the block of a region owns and lends.
 use Rattle.std.specs.Prelude.{ℕ, List, length}
 use base.Fraction.{full_share}
 use base.Fml.{Lft, Fml}

@@ -1,4 +1,4 @@
-//! The block behind a region, and the right to give it back. Only this file has raw pointers.
+//! The block of a region, and the right to give it back. Only this file has raw pointers.
 ghost use Rattle.std.specs.Prelude.{◌≡◌, ℕ, ◌+◌, ◌<◌, ◌≤◌, ◌++◌, List, length, take, drop, replicate, IfOk, slice_index, slice_set};
 ghost use denote.RawPtr.{Ptr};
 ghost use Rattle.raw_region.specs.Ownership.{block_type, room_at, bytes_at, bytes_lent};

@@ -48,7 +48,7 @@ still_below : (k : ℕ) (number : Option ℕ) → is_below k number ≡ true →
 still_below k None below = refl
 still_below k (Some n) below = grind (arith, nat_tests)
 
--- what stands behind a number above the count has none below it
+-- what stands after a number above the count has none below it
 above_precedes : (count : Count) (k : ℕ) (first later : When) → is_above k (awaited count first) ≡ true → may_precede first later ≡ true → is_now k (awaited count later) ≡ false
 above_precedes Events k Start later above order = grind arith
 above_precedes Events k (At m) Start above order = refl
@@ -70,7 +70,7 @@ none_due count k (change ∷ changes) below =
     is_due-awaited count k change.when ∙ below_not_now k (awaited count change.when) parts.0 in
     rw here (none_due count k changes parts.1)
 
--- where a first number is above the count, none behind it is due
+-- where a first number is above the count, none after it is due
 none_due_after : (count : Count) (k : ℕ) (first : When) (changes : List Change) → is_above k (awaited count first) ≡ true → list_all (λ later. may_precede first later.when) changes ≡ true → changes_at (is_due count k) changes ≡ []
 none_due_after count k first [] above order = refl
 none_due_after count k first (change ∷ changes) above order =
@@ -107,7 +107,7 @@ one_stored true change before store =
     ap (λ state. let made : Store = record { layout = store.layout; state = state } in made) (sym (all_changed-append store.layout before (change ∷ []) store.state))
 one_stored false change before store = ap (λ changes. all_stored changes store) (sym (append-nil before))
 
--- the same at a place of the script
+-- one change more at a place of the script
 pub more_stored : (test : When → Bool) (changes : List Change) (i : ℕ) (change : Change) (store before : Store) → i < length changes → change ≡ get_or changes i change → before ≡ all_stored (changes_at test (take i changes)) store →
     (if test change.when then store_changed change.what before else before) ≡ all_stored (changes_at test (take (i + 1) changes)) store
 more_stored test changes i change store before below is done =

@@ -11,9 +11,9 @@ use Rattle.off_chip.specs.Boundaries.{is_suspend}
 use Rattle.scripted_dram.specs.ScriptMemory.{Moment, is_before_event, IsScripted, after_all, beginning, moment_after, changes_at, is_at_suspension, next, readied}
 use Rattle.scripted_dram.specs.DueChanges.{IsPassed, is_due}
 use Rattle.scripted_dram.specs.declared.due.Count.TheVariants.{Events, Suspensions}
-use Rattle.scripted_dram.specs.ScriptedValues.{IsScriptedMemory}
+use Rattle.scripted_dram.specs.ScriptedInvariant.{IsScriptedMemory}
 
--- the moment behind one event more
+-- the moment after one event more
 after_all-more : (layout : Layout) (script : List Change) (events : List Event) (event : Event) (moment : Moment) → after_all layout script (events ++ event ∷ []) moment ≡ next layout script event (after_all layout script events moment)
 after_all-more layout script [] event moment = refl
 after_all-more layout script (first ∷ events) event moment = after_all-more layout script events event (next layout script first moment)

@@ -57,7 +57,7 @@ starts : (start_of_target small (target.Node 0) ≡ Some 65536) × (start_of_tar
 unfolding height_of
 starts = (refl, refl, refl, refl)
 
--- the stamp stands behind the payload, its greatest byte first
+-- the stamp stands after the payload, its greatest byte first
 stored_block : (block : Block) → block.payload ≡ 7 ∷ [] → block.stamp ≡ 258 → stored (record { payload = 7 ∷ []; stamp = 258 }) ≡ 7 ∷ 0 ∷ 0 ∷ 0 ∷ 0 ∷ 0 ∷ 0 ∷ 1 ∷ 2 ∷ []
 stored_block block payload stamp = refl
 
@@ -75,18 +75,18 @@ slots = (refl, refl, refl)
 abbrev zeros : Moment
 zeros = record { state = record { memory = replicate 8 0; slots = [] }; events = 0; suspensions = 0 }
 
--- a change before event 1: a read before it gives zeros, and one behind it the bytes of the change
+-- a change before event 1: a read before it gives zeros, and one after it the bytes of the change
 abbrev at_one : List Change
 at_one = record { when = At 1; what = Open 0 (0xaa ∷ 0xbb ∷ 0xcc ∷ 0xdd ∷ []) } ∷ []
 
 two_reads : IsScripted small at_one (WordRead Secure 0 0 ∷ WordRead Secure 0 0xaabbccdd ∷ []) zeros
 two_reads = (refl, (refl, tt))
 
--- a write behind it lasts
+-- a write after it lasts
 write_after : IsScripted small at_one (WordRead Secure 4 0 ∷ WordWrite Untrusted 0 1 ∷ WordRead Secure 0 1 ∷ []) zeros
 write_after = (refl, (tt, (refl, tt)))
 
--- the changes of a suspension are done right behind its mark, and the `at` changes before it
+-- the changes of a suspension are done right after its mark, and the `at` changes before it
 abbrev both : List Change
 both = record { when = At 1; what = Open 0 (1 ∷ []) } ∷ record { when = Suspend 0; what = Open 0 (2 ∷ []) }
     ∷ record { when = Suspend 1; what = Open 4 (3 ∷ []) } ∷ []

@@ -1,4 +1,4 @@
--- What the changes of a script do to off-chip memory.
+-- Promise: what the changes of a script do to off-chip memory.
 use Rattle.std.specs.Prelude.{ℕ, ◌+◌, nat_lt, if◌then◌else◌, List, [], ◌∷◌, Option, None, Some, option_map, get_or, set}
 use Rattle.aegis_num.specs.declared.storage.Place.{Place}
 use Rattle.aegis_num.specs.declared.storage.Place.TheVariants.{Tree, Log}

@@ -1,4 +1,4 @@
--- Which changes of a script are due, by cursors that pass over it once.
+-- Device: which changes of a script are due, by cursors that pass over it once.
 use Rattle.std.specs.Prelude.{ℕ, ◌≡◌, ◌≤◌, nat_eq, nat_lt, Bool, true, false, not, List, [], ◌∷◌, length, take, Option, None, Some}
 use Rattle.std.specs.List.{list_all}
 use Rattle.adversary_script.specs.declared.change.When.{When}

@@ -1,4 +1,4 @@
--- A memory under an empty script is a plain one.
+-- Promise: a memory under an empty script is a plain one.
 use Rattle.std.specs.Prelude.{ℕ, ◌↔◌, List, []}
 use Rattle.regions.specs.declared.layout.Layout.{Layout}
 use Rattle.off_chip.specs.declared.event.Event.{Event}

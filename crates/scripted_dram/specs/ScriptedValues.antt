@@ -1,12 +1,9 @@
--- What a scripted memory keeps.
-use Rattle.std.specs.Prelude.{ℕ, ◌≡◌, ◌≤◌, List, length}
+-- Promise: what a scripted memory is seen as, and when two are the same memory.
+use Rattle.std.specs.Prelude.{ℕ, ◌≡◌, List}
 use Rattle.regions.specs.declared.layout.Layout.{Layout}
 use Rattle.adversary_script.specs.declared.change.Change.{Change}
 use Rattle.off_chip.specs.declared.event.Event.{Event}
-use Rattle.scripted_dram.specs.ChangedStates.{State}
-use Rattle.scripted_dram.specs.ScriptMemory.{IsScripted, after_all, beginning, readied}
-use Rattle.scripted_dram.specs.DueChanges.{IsPassed}
-use Rattle.scripted_dram.specs.declared.due.Count.TheVariants.{Events, Suspensions}
+use Rattle.scripted_dram.specs.ScriptMemory.{after_all, beginning, readied}
 
 -- the layout, the static blocks and the script that it began with, and its events
 pub record Scripted : Type 0 where
@@ -26,13 +23,3 @@ pub record SameScripted (a b : Scripted) : Type 0 where
 abbrev pub scripted_contents : Scripted → List ℕ
 scripted_contents d =
     (readied d.layout d.script (after_all d.layout d.script d.trace (beginning d.layout d.statics d.script))).memory
-
--- the storage is what the script makes of it behind these events, it answered each read, and the cursors stand where the
--- changes that were done end
-pub record IsScriptedMemory (layout : Layout) (statics : List ℕ) (script : List Change) (trace : List Event)
-    (state : State) (suspensions next_at next_suspend : ℕ) : Type 0 where
-  pub moment : after_all layout script trace (beginning layout statics script) ≡ record { state = state; events = length trace; suspensions = suspensions }
-  pub answered : IsScripted layout script trace (beginning layout statics script)
-  pub events_passed : IsPassed Events (length trace) script next_at
-  pub suspensions_passed : IsPassed Suspensions suspensions script next_suspend
-  pub few : suspensions ≤ length trace

@@ -1,4 +1,4 @@
--- What the storage of a scripted memory is.
+-- Device: what the storage of a scripted memory is.
 use Rattle.std.specs.Prelude.{ℕ, ◌≡◌, ◌<◌, ◌^◌, List, Option, length}
 use Rattle.aegis_num.specs.declared.limits.TheConstants.{SAVE_SLOTS}
 use Rattle.regions.specs.declared.layout.Layout.{Layout}

@@ -7,7 +7,7 @@ mod laws;
 mod scripted;
 mod storage;
 
-pub use laws::plain_under_empty_script;
+pub use laws::{plain_under_empty_script, same_scripted_memory};
 pub use scripted::ScriptedDram;
 
 #[cfg(test)]

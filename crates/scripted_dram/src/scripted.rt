@@ -35,7 +35,8 @@ pub struct ScriptedDram {
 }
 
 impl Model for ScriptedDram {
-    ghost use Rattle.scripted_dram.specs.ScriptedValues.{IsScriptedMemory, Scripted};
+    ghost use Rattle.scripted_dram.specs.ScriptedInvariant.{IsScriptedMemory};
+    ghost use Rattle.scripted_dram.specs.ScriptedValues.{Scripted};
 
     ghost Value = { Scripted };
 

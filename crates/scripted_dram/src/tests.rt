@@ -70,7 +70,14 @@ fn note<M: OffChip>(memory: &mut M, layout: &Layout, mark: Mark)
     requires told { M.layout memory.old ≡ Some layout.now }
     ensures { M.layout memory.new ≡ Some layout.now }
 {
-    memory.note(mark);
+    match mark {
+        Mark::Drop(at) => {
+            if has_place(layout, at) {
+                memory.note(mark);
+            }
+        }
+        _ => memory.note(mark),
+    }
 }
 
 // Makes the call of an event.

@@ -3,7 +3,7 @@ use Rattle.std.specs.Str.Lines.{lines}
 use Rattle.adversary_script.specs.ScriptGrammar.{changes_from, script_of}
 use Rattle.adversary_script.proofs.reading.read_script.Given as goal
 
--- the changes so far, and those of the rest behind them, are those of the text
+-- the changes so far, and those of the rest after them, are those of the text
 abbrev pub invariant-lines : goal.invariant-lines
 invariant-lines l = record {
   numbered : l.n + length l.rest ≤ length l.text + 1;

@@ -4,8 +4,8 @@ use Rattle.off_chip.specs.OffChipBytes.{bytes_at}
 use Rattle.off_chip.proofs.ByteLemmas.{bytes_at-add}
 use Rattle.off_chip.proofs.stored.block_at.Goals as goal
 
-pub returns : goal.returns
-returns c =
+pub returns-clause-bytes : goal.returns-clause-bytes
+returns-clause-bytes c =
     let start = c.args.start in
     let memory = c.args.memory.now in
     let part : start + 64 - start ≡ 64 = omega arith in

@@ -1,6 +1,10 @@
 use Rattle.std.proofs.Common.{sym, subst, ℕ, List}
 use Rattle.off_chip.specs.declared.event.Event.{Event}
+use Rattle.std.specs.Prelude.{IfSome}
+use Rattle.off_chip.specs.BlockPlaces.{LiesInside}
+use Rattle.off_chip.specs.HonestMemory.{moved_block, IsWhole}
 use Rattle.off_chip.specs.PlainInvariant.{IsPlainMemory}
+use Rattle.off_chip.proofs.PlainMemory.{nothing_in}
 use Rattle.off_chip.proofs.plain.PlainDram.new.Goals as goal
 
 pub invariant_of-result : goal.invariant_of-result
@@ -14,5 +18,10 @@ invariant_of-result c =
       counted = c.blocks_of_tree.ensures.value;
       size = c.in_ok-memory.ensures.size;
       bytes = c.in_ok-memory.ensures.bytes;
-      answered = tt;
+      plain = record {
+        long = c.requires.statics;
+        answered = tt;
+        inside = record { each = nothing_in (LiesInside layout) };
+        whole = record { each = nothing_in (λ event. IfSome (moved_block event) IsWhole) };
+      };
     }))

@@ -7,4 +7,4 @@ use Rattle.off_chip.proofs.plain.PlainDramOffChip.read_word.Goals as goal
 pub invariant_of-self : goal.invariant_of-self
 invariant_of-self c =
     let holds = c.word_at-word.ensures ∙ ap (bytes_at c.args.at 4) c.deref.ensures.value in
-    IsPlainMemory-more (WordRead c.args.by c.args.at c.word_at-word.result) _ _ c.self.invariant holds refl refl c.append.ensures.event.trace
+    IsPlainMemory-more (WordRead c.args.by c.args.at c.word_at-word.result) _ _ c.self.invariant holds (record { place = tt; address = c.requires.word }) tt refl refl c.append.ensures.event.trace

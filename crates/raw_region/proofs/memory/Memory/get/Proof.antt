@@ -50,7 +50,7 @@ get_spec 𝓤 𝓛 𝓜 𝓡 wired =
     enter ! _ _ _ _ _ $ alloc_all ! (λ l. pass_all ! refl ((tt, tt), ((tt, record { fits = are.1.0.1 }), tt)) $
     use1 𝓛 (‵ (hidden_shr RawPtr κ h.ptr b (o + 0)) ⊛ ‵ (bytes_lent h.ptr xs κ)) (shown 𝓛 κ h b o) $ split ! $ move ! (1 ∷ []) $
     in_a_block ! h.ptr (λ p. bytes_lent p xs κ) (fst∗ 𝓤 (never 𝓤) (sem 𝓛 (shared_of (Bytes xs) xs 0 0 κ))) (λ b' o' e. fsplit ! $ drop ! $ hide ! $
-    -- [the bytes behind a `&`; the pointer behind a `&`; the token]
+    -- [the bytes that a `&` shows; the pointer that a `&` shows; the token]
     move ! (1 ∷ 2 ∷ []) $ first ! $ blocks ! $ pointer_in ! tt h.ptr b' o' e b (o + 0) (λ _.
     sets ! (of_opd ! (load ! (through ! refl (fld ! refl (stop !))) (look ! 0 refl))) refl (tt, tt) $
     pointer_out ! tt h.ptr b' o' e b (o + 0) $ move ! (1 ∷ 0 ∷ []) $
