@@ -1,3 +1,4 @@
+pub mod Listed
 pub mod Uses
 pub mod MentionedExpressions
 pub mod MentionedStatements

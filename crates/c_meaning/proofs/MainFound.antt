@@ -1,21 +1,21 @@
 -- Where each global name is declared once, the function `main` is found by its name.
 use Rattle.std.proofs.Common.{◌≡◌, ◌∙◌, ap, subst, ℕ, ◌||◌, ◌&&◌, ◌==◌, Bool, not, true, false, cond, List, [], ◌∷◌, ◌++◌, length, codes, Some, None, refl}
-use Rattle.std.specs.List.{list_any}
 use Rattle.std.specs.Str.{bytes_eq}
 use Rattle.std.proofs.lemmas.Slice.Eq.{bytes_eq-Decides}
 use Rattle.c_grammar.specs.declared.item.Item.{Item}
 use Rattle.c_grammar.specs.declared.item.Item.TheVariants as item
+use Rattle.c_grammar.specs.declared.item.Program.{Program}
 use Rattle.c_scopes.specs.declared.declaration.Binding.{Binding}
 use Rattle.c_scopes.specs.declared.declaration.Declaration.{Declaration}
 use Rattle.c_types.specs.declared.site.Rule.{Rule}
 use Rattle.c_types.specs.declared.site.Rule.TheVariants.{Twice}
 use Rattle.c_types.specs.declared.site.Site.TheVariants as site
-use Rattle.c_scopes.specs.Scopes.{declares, latest, or_else, bytes_eq}
+use Rattle.c_scopes.specs.Scopes.{declares, latest, or_else}
 use Rattle.c_scopes.specs.Declarations.{declaration_of, declarations_of, name_of, token_of}
 use Rattle.c_types.specs.Sites.{item_sites}
 use Rattle.c_types.specs.TypingRules.{Breaks}
 use Rattle.c_types.specs.TypingRules.Breaks.{twice_global}
-use Rattle.c_types.specs.Checked.{is_int, is_main}
+use Rattle.c_types.specs.Checked.{KeepsRules, is_int, is_main}
 use Rattle.c_resolver.specs.Resolving.{function_tokens, main_token, function_number}
 use Rattle.c_meaning.specs.Mentions.{items_sites}
 use Rattle.c_meaning.specs.FunctionNumbers.{MainIsFound}
@@ -71,12 +71,9 @@ declares-last : (known : List Declaration) (d : Declaration) (name : List ℕ) �
 declares-last [] d name same = or_left (bytes_eq d.name name) false same
 declares-last (k ∷ known) d name same = or_right (bytes_eq k.name name) (declares (known ++ d ∷ []) name) (declares-last known d name same)
 
-declares-by : (known : List Declaration) (a b : List ℕ) → a.bytes ≡ b.bytes → declares known a ≡ declares known b
-declares-by known a b same = ap (λ bytes. list_any (λ d. bytes_eq d.name bytes) known) same
-
 not-main : (known : List Declaration) (name : List ℕ) → declares known (codes "main") ≡ true → declares known name ≡ false → bytes_eq name (codes "main") ≡ false
 not-main known name held free =
-    if_not_true (bytes_eq name (codes "main")) (λ same. let e = declares-by known name (codes "main") ((bytes_eq-Decides name (codes "main")).0 same) in absurd (cc))
+    if_not_true (bytes_eq name (codes "main")) (λ same. let e = ap (declares known) ((bytes_eq-Decides name (codes "main")).0 same) in absurd (cc))
 
 none-later : (known : List Declaration) (rest : List Item) → declares known (codes "main") ≡ true → Distinct known rest → latest (declarations_of rest) (codes "main") ≡ None
 none-later known [] held distinct = refl
@@ -95,18 +92,18 @@ found known (y ∷ before) after x same distinct =
     ap (λ o. or_else o (cond (bytes_eq (name_of y) (codes "main")) (Some (declaration_of y).binding) None))
     (found (known ++ declaration_of y ∷ []) before after x same distinct.1)
 
-(codes "main")d : (x : Item) → is_main x ≡ true → bytes_eq (name_of x) (codes "main") ≡ true
-(codes "main")d (item.Object storage unsigned name length' token) is = absurd (cc)
-(codes "main")d (item.Constant unsigned name length' values braces token) is = absurd (cc)
-(codes "main")d (item.Untrusted name token) is = absurd (cc)
-(codes "main")d (item.Function private result name parameters body token) is = and_first (bytes_eq name (codes "main")) (is_int result) (length parameters == 0) (not private) is
+main_named : (x : Item) → is_main x ≡ true → bytes_eq (name_of x) (codes "main") ≡ true
+main_named (item.Object storage unsigned name length' token) is = absurd (cc)
+main_named (item.Constant unsigned name length' values braces token) is = absurd (cc)
+main_named (item.Untrusted name token) is = absurd (cc)
+main_named (item.Function private result name parameters body token) is = and_first (bytes_eq name (codes "main")) (is_int result) (length parameters == 0) (not private) is
 
 token-found : (declared : List Declaration) (b : Binding) → latest declared (codes "main") ≡ Some b → main_token declared ≡ b.token
 token-found declared b e = rw e refl
 
-pub main_is_found : MainIsFound
+pub main_is_found : (p : Program) → KeepsRules p → MainIsFound p
 main_is_found p keeps before after x all is =
     let distinct : Distinct [] (before ++ x ∷ after) = subst (Distinct []) all (items-distinct [] p.items (items-clean p keeps [] p.items refl)) in
     let e : latest (declarations_of p.items) (codes "main") ≡ Some (declaration_of x).binding =
-    ap (λ items. latest (declarations_of items) (codes "main")) all ∙ found [] before after x ((codes "main")d x is) distinct in
+    ap (λ items. latest (declarations_of items) (codes "main")) all ∙ found [] before after x (main_named x is) distinct in
     ap (function_number (function_tokens p.items)) (token-found (declarations_of p.items) (declaration_of x).binding e)

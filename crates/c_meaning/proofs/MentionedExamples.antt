@@ -31,26 +31,23 @@ use Rattle.c_resolver.specs.Resolving.{Resolved, ResolvedStmt, assigned, binary_
 use Rattle.c_meaning.specs.Mentions.{Mention, Declared, Scalar, Array, Called, at_sites, in_functions, mentions, program_sites}
 use Rattle.c_resolver.proofs.Rows.{resolved-For}
 
-abbrev name : List ℕ → List ℕ
-name bytes = record { bytes = bytes; spare = [] }
-
 abbrev number : ℕ → ℕ → Expr
 number value token = expr.Number value false token
 
 abbrev i : ℕ → Expr
-i token = expr.Name (name (codes "i")) token
+i token = expr.Name (codes "i") token
 
 abbrev first : Stmt
-first = stmt.Local false (name (codes "i")) (Some (number 0 38)) 36
+first = stmt.Local false (codes "i") (Some (number 0 38)) 36
 
 abbrev test : Expr
 test = expr.Binary LessThan (i 40) (number 2 42) 41
 
 abbrev step : Stmt
-step = stmt.Assign (name (codes "i")) None (expr.Binary Plus (i 46) (number 1 48) 47) 44
+step = stmt.Assign (codes "i") None (expr.Binary Plus (i 46) (number 1 48) 47) 44
 
 abbrev body : Stmt
-body = stmt.Assign (name (codes "t")) (Some (i 52)) (expr.Call (name (codes "f")) (expr.Name (name (codes "a")) 57 ∷ []) 55) 50
+body = stmt.Assign (codes "t") (Some (i 52)) (expr.Call (codes "f") (expr.Name (codes "a") 57 ∷ []) 55) 50
 
 -- for(int i=0;i<2;i=i+1)t[i]=f(a);
 abbrev turns : Stmt
@@ -59,15 +56,15 @@ turns = stmt.For (Some first) (Some test) (Some step) body 33
 -- int a;int t[3];int f(int a){return a;}int main(void){a=1;int a; the loop above; return t[0];}
 abbrev small : Program
 small = record {
-  items = item.Object storage.Verified false (name (codes "a")) None 1
-      ∷ item.Object storage.Verified false (name (codes "t")) (Some 3) 4
-      ∷ item.Function false Int (name (codes "f")) (record { unsigned = false; name = name (codes "a"); token = 13 } ∷ [])
-      (stmt.Return (Some (expr.Name (name (codes "a")) 17)) 16 ∷ []) 10
-      ∷ item.Function false Int (name (codes "main")) []
-      (stmt.Assign (name (codes "a")) None (number 1 28) 26
-      ∷ stmt.Local false (name (codes "a")) None 31
+  items = item.Object storage.Verified false (codes "a") None 1
+      ∷ item.Object storage.Verified false (codes "t") (Some 3) 4
+      ∷ item.Function false Int (codes "f") (record { unsigned = false; name = codes "a"; token = 13 } ∷ [])
+      (stmt.Return (Some (expr.Name (codes "a") 17)) 16 ∷ []) 10
+      ∷ item.Function false Int (codes "main") []
+      (stmt.Assign (codes "a") None (number 1 28) 26
+      ∷ stmt.Local false (codes "a") None 31
       ∷ turns
-      ∷ stmt.Return (Some (expr.Index (name (codes "t")) (number 0 63) 62)) 60
+      ∷ stmt.Return (Some (expr.Index (codes "t") (number 0 63) 62)) 60
       ∷ []) 21
       ∷ [];
 }
@@ -154,7 +151,7 @@ at-Assign fs text index value token known = ap (λ s. s.at known) (ap (resolved 
 declared-Assign : (fs : List ℕ) (text : List ℕ) (index : Option Expr) (value : Expr) (token : ℕ) → (resolved fs (stmt.Assign text index value token)).declared ≡ []
 declared-Assign fs text index value token = ap (λ s. s.declared) (ap (resolved fs) (sym (stmt.rolls-Assign text index value token)) ∙ fold-roll-Stmt ResolvedStmt (Resolving.stmt_step fs) (Stmt-F.Assign text index value token))
 
-sites-Assign : (text : List ℕ) (index : Option Expr) (value : Expr) (token : ℕ) → stmt_sites (stmt.Assign text index value token) ≡ Sites.plain (λ place. use_of (assign index) place.scope.known place.home text token ∷ (part_sites index place.scope.known place.home ++ expr_sites value place.scope.known place.home))
+sites-Assign : (text : List ℕ) (index : Option Expr) (value : Expr) (token : ℕ) → stmt_sites (stmt.Assign text index value token) ≡ Sites.only_sites (λ place. use_of (assign index) place.scope.known place.home text token ∷ (part_sites index place.scope.known place.home ++ expr_sites value place.scope.known place.home))
 sites-Assign text index value token = ap stmt_sites (sym (stmt.rolls-Assign text index value token)) ∙ fold-roll-Stmt StmtSites Sites.stmt_step (Stmt-F.Assign text index value token)
 
 at-Return : (fs : List ℕ) (value : Option Expr) (token : ℕ) (known : List Declaration) → (resolved fs (stmt.Return value token)).at known ≡ Tree.Return (part_in fs value known)
@@ -163,7 +160,7 @@ at-Return fs value token known = ap (λ s. s.at known) (ap (resolved fs) (sym (s
 declared-Return : (fs : List ℕ) (value : Option Expr) (token : ℕ) → (resolved fs (stmt.Return value token)).declared ≡ []
 declared-Return fs value token = ap (λ s. s.declared) (ap (resolved fs) (sym (stmt.rolls-Return value token)) ∙ fold-roll-Stmt ResolvedStmt (Resolving.stmt_step fs) (Stmt-F.Return value token))
 
-sites-Return : (value : Option Expr) (token : ℕ) → stmt_sites (stmt.Return value token) ≡ Sites.plain (λ place. site.Return place.home.result (is_some value) token ∷ part_sites value place.scope.known place.home)
+sites-Return : (value : Option Expr) (token : ℕ) → stmt_sites (stmt.Return value token) ≡ Sites.only_sites (λ place. site.Return place.home.result (is_some value) token ∷ part_sites value place.scope.known place.home)
 sites-Return value token = ap stmt_sites (sym (stmt.rolls-Return value token)) ∙ fold-roll-Stmt StmtSites Sites.stmt_step (Stmt-F.Return value token)
 
 at-turns : (fs : List ℕ) (known : List Declaration) → (resolved fs turns).at known
@@ -174,7 +171,7 @@ at-turns fs known = ap (λ s. s.at known) (resolved-For fs (Some first) (Some te
 declared-turns : (fs : List ℕ) → (resolved fs turns).declared ≡ []
 declared-turns fs = ap (λ s. s.declared) (resolved-For fs (Some first) (Some test) (Some step) body 33)
 
-sites-turns : stmt_sites turns ≡ Sites.plain (λ place.
+sites-turns : stmt_sites turns ≡ Sites.only_sites (λ place.
     let around = place_after (stmt_sites first).declared (inside place) in
     (stmt_sites first).sites (inside place)
     ++ (expr_sites test around.scope.known around.home ++ (stmt_sites step).sites (inside around) ++ (stmt_sites body).sites (looped around)))

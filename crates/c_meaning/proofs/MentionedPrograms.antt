@@ -15,7 +15,7 @@ use Rattle.c_scopes.specs.Declarations.{declaration_of, declarations_of, entity_
 use Rattle.c_types.specs.Sites.{Place, place_after, body_sites, function_sites, in_function, item_sites, length_sites, parameter_sites}
 use Rattle.c_types.specs.TypingRules.{Breaks, Stands, at_token}
 use Rattle.c_types.specs.TypingRules.Violates.{by_site}
-use Rattle.c_types.specs.Checked.{KeepsRules}
+use Rattle.c_types.specs.Checked.{IsReadProgram, KeepsRules}
 use Rattle.c_semantics.specs.ResolvedTree as Tree
 use Rattle.c_resolver.specs.Resolving.{body_in, function_tokens, functions_in, parameters_in}
 use Rattle.c_meaning.specs.Mentions.{Declared, NamesAgree, at_sites, in_functions, in_parameters, in_stmt, items_sites}
@@ -113,9 +113,9 @@ pub items-clean : (p : Program) → KeepsRules p → (before rest : List Item) �
 items-clean p keeps before [] all = tt
 items-clean p keeps before (x ∷ rest) all =
     clean-both (item_sites before x) (items_sites (before ++ x ∷ []) rest)
-    (clean-place_after (item_sites before x) [] (item_sites before x) refl
+    (clean-after (item_sites before x) [] (item_sites before x) refl
     (λ front s rule stands breaks. keeps (at_token s) rule (by_site before x front s (record { after = rest; all = all }) stands refl breaks)))
     (items-clean p keeps (before ++ x ∷ []) rest (all ∙ sym (append_assoc before (x ∷ []) rest)))
 
-pub names_agree : NamesAgree
+pub names_agree : (p : Program) → IsReadProgram p → KeepsRules p → NamesAgree p
 names_agree p read keeps = items_agree (function_tokens p.items) read.2 [] tt (items-clean p keeps [] p.items refl)

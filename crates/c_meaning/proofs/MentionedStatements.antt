@@ -39,7 +39,7 @@ by_layer fs x r s same also agrees = subst (λ r'. AgreesStmt fs r' (stmt_sites 
 
 -- a statement that declares nothing
 plainly : (fs : List ℕ) (at : List Declaration → Tree.Stmt) (sites : Place → List Site) →
-    ((place : Place) → AllTakeNone place.scope.known → Mentioned fs (in_stmt (at place.scope.known)) (sites place)) → AgreesStmt fs (Resolving.plain at) (Sites.plain sites)
+    ((place : Place) → AllTakeNone place.scope.known → Mentioned fs (in_stmt (at place.scope.known)) (sites place)) → AgreesStmt fs (Resolving.only_resolved at) (Sites.only_sites sites)
 plainly fs at sites agrees = record { declared = refl; takes = tt; sites = agrees }
 
 -- ---- each form without statements in it
@@ -184,13 +184,13 @@ one_agrees fs s ss first later place takes =
 
 -- ---- an `if` and loops
 
-nothing_agrees : (fs : List ℕ) → AgreesStmt fs (Resolving.optional None) (Sites.optional None)
+nothing_agrees : (fs : List ℕ) → AgreesStmt fs (Resolving.resolved_if_any None) (Sites.sites_if_any None)
 nothing_agrees fs = record { declared = refl; takes = tt; sites = λ place takes clean. refl }
 
 if_parts_agree : (fs : List ℕ) (test : Expr) (rb ro : ResolvedStmt) (sb so : StmtSites) → Agrees fs (typed fs test) (expr_sites test) →
     AgreesStmt fs rb sb → AgreesStmt fs ro so →
-    AgreesStmt fs (Resolving.plain (λ known. Tree.If (typed fs test known).expr (rb.at known) (ro.at known)))
-    (Sites.plain (λ place. expr_sites test place.scope.known place.home ++ sb.sites (inside place) ++ so.sites (inside place)))
+    AgreesStmt fs (Resolving.only_resolved (λ known. Tree.If (typed fs test known).expr (rb.at known) (ro.at known)))
+    (Sites.only_sites (λ place. expr_sites test place.scope.known place.home ++ sb.sites (inside place) ++ so.sites (inside place)))
 if_parts_agree fs test rb ro sb so first body other = record {
   declared = refl;
   takes = tt;
@@ -209,7 +209,7 @@ if_agrees fs test body token first second =
     by_layer fs (stmt.If test body None token) _ _
     (ap (resolved fs) (sym (stmt.rolls-If test body None token)) ∙ fold-roll-Stmt ResolvedStmt (Resolving.stmt_step fs) (Stmt-F.If test body None token))
     (ap stmt_sites (sym (stmt.rolls-If test body None token)) ∙ fold-roll-Stmt StmtSites Sites.stmt_step (Stmt-F.If test body None token))
-    (if_parts_agree fs test (resolved fs body) (Resolving.optional None) (stmt_sites body) (Sites.optional None) first second (nothing_agrees fs))
+    (if_parts_agree fs test (resolved fs body) (Resolving.resolved_if_any None) (stmt_sites body) (Sites.sites_if_any None) first second (nothing_agrees fs))
 
 if_else_agrees : (fs : List ℕ) (test : Expr) (body other : Stmt) (token : ℕ) → Agrees fs (typed fs test) (expr_sites test) →
     AgreesStmt fs (resolved fs body) (stmt_sites body) → AgreesStmt fs (resolved fs other) (stmt_sites other) →
@@ -237,20 +237,20 @@ while_agrees fs test body token first second =
 
 -- what stands in the head of a `for`, if it stands there
 abbrev branch : List ℕ → Option Stmt → ResolvedStmt
-branch fs None = Resolving.optional None
+branch fs None = Resolving.resolved_if_any None
 branch fs (Some s) = resolved fs s
 
 abbrev branch_sites : Option Stmt → StmtSites
-branch_sites None = Sites.optional None
+branch_sites None = Sites.sites_if_any None
 branch_sites (Some s) = stmt_sites s
 
 for_parts_agree : (fs : List ℕ) (rf rs rb : ResolvedStmt) (sf ss sb : StmtSites) (test : Option Expr) →
     AgreesStmt fs rf sf → AgreesPart fs test → AgreesStmt fs rs ss → AgreesStmt fs rb sb →
     AgreesStmt fs
-    (Resolving.plain (λ known.
+    (Resolving.only_resolved (λ known.
     let around = known ++ rf.declared in
     Tree.For (rf.at known) (part_in fs test around) (rs.at around) (rb.at around)))
-    (Sites.plain (λ place.
+    (Sites.only_sites (λ place.
     let around = place_after sf.declared (inside place) in
     sf.sites (inside place) ++ (part_sites test around.scope.known around.home ++ ss.sites (inside around) ++ sb.sites (looped around))))
 for_parts_agree fs rf rs rb sf ss sb test first part step body = record {

@@ -8,13 +8,16 @@ use Rattle.c_grammar.specs.declared.item.Kind3.{Kind3}
 use Rattle.c_grammar.specs.declared.item.Parameter.{Parameter}
 use Rattle.c_grammar.specs.declared.item.Item.{Item}
 use Rattle.c_grammar.specs.declared.item.Item.TheVariants as item
+use Rattle.c_grammar.specs.declared.item.Program.{Program}
 use Rattle.c_grammar.specs.BoundedTokens.{Bounded, bounded_all, numbered}
 use Rattle.c_grammar.specs.ProgramGrammar.{IsItem, AreItems}
 use Rattle.c_grammar.specs.TokenPrograms.{limit}
 use Rattle.c_scopes.specs.declared.declaration.Declaration.{Declaration}
 use Rattle.c_scopes.specs.Declarations.{declaration_of, declarations_of, token_of}
 use Rattle.c_resolver.specs.Resolving.{function_in, function_tokens, functions_in, function_number}
-use Rattle.c_meaning.specs.FunctionNumbers.{NumbersLead}
+use Rattle.c_types.specs.Checked.{IsReadProgram}
+use Rattle.c_meaning.specs.FunctionNumbers.{NumbersCount, NumbersLead}
+use Rattle.c_meaning.proofs.Listed.{tokens-counted}
 
 -- ---- places of tokens in a row
 
@@ -125,12 +128,21 @@ body-led fs known (item.Function private' result' name' parameters' body' t ∷ 
     body-led fs (known ++ d ∷ []) before after private result name parameters body token
     ∙ ap (λ l. Some (function_in fs private parameters body l)) (after-one known d (declaration_of (item.Function private result name parameters body token)) (declarations_of before))
 
-pub numbers_lead : NumbersLead
+number-counted : (p : Program) → IsReadProgram p →
+    (before after : List Item) (private : Bool) (result : Kind3) (name : List ℕ) (parameters : List Parameter) (body : List Stmt) (token : ℕ) →
+    p.items ≡ before ++ item.Function private result name parameters body token ∷ after →
+    function_number (function_tokens p.items) token ≡ length (function_tokens before)
+number-counted p read before after private result name parameters body token all =
+    let ascends : Ascends 0 (before ++ item.Function private result name parameters body token ∷ after) =
+    subst (Ascends 0) all (items-ascend read.2 0 (from-numbered 0 read.0)) in
+    ap (λ items. function_number (function_tokens items) token) all ∙ number-before 0 before after private result name parameters body token ascends
+
+pub numbers_lead : (p : Program) → IsReadProgram p → NumbersLead p
 numbers_lead p read before after private result name parameters body token all =
-    let x = item.Function private result name parameters body token in
-    let ascends : Ascends 0 (before ++ x ∷ after) = subst (Ascends 0) all (items-ascend read.2 0 (from-numbered 0 read.0)) in
-    let number : function_number (function_tokens p.items) token ≡ length (function_tokens before) =
-    ap (λ items. function_number (function_tokens items) token) all ∙ number-before 0 before after private result name parameters body token ascends in
-    ap (λ n. slice_get (functions_in (function_tokens p.items) p.items []) n) number
+    ap (λ n. slice_get (functions_in (function_tokens p.items) p.items []) n) (number-counted p read before after private result name parameters body token all)
     ∙ ap (λ items. slice_get (functions_in (function_tokens p.items) items []) (length (function_tokens before))) all
     ∙ body-led (function_tokens p.items) [] before after private result name parameters body token
+
+pub numbers_count : (p : Program) → IsReadProgram p → NumbersCount p
+numbers_count p read before after private result name parameters body token all =
+    number-counted p read before after private result name parameters body token all ∙ tokens-counted before

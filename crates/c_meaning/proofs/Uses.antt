@@ -14,7 +14,8 @@ use Rattle.c_types.specs.declared.site.How.TheVariants.{Value, Element, Assign, 
 use Rattle.c_types.specs.declared.site.Rule.{Rule}
 use Rattle.c_types.specs.declared.site.Rule.TheVariants.{Unknown, Shape, Arity}
 use Rattle.c_types.specs.declared.site.Site.TheVariants as site
-use Rattle.c_scopes.specs.Scopes.{latest, or_else, bytes_eq}
+use Rattle.std.specs.Str.{bytes_eq}
+use Rattle.c_scopes.specs.Scopes.{latest, or_else}
 use Rattle.c_types.specs.TypingRules.{Breaks, is_void}
 use Rattle.c_types.specs.TypingRules.Breaks.{unknown, array_whole, scalar_indexed, object_called, function_named, no_value, other_number}
 use Rattle.c_semantics.specs.ResolvedTree as Tree

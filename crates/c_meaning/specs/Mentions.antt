@@ -1,4 +1,4 @@
--- What a program mentions, in the order of the source: once as its resolved tree has it, and once as the rules of scope
+-- Promise: what a program mentions, in the order of the source: once as its resolved tree has it, and once as the rules of scope
 -- bind it (ISO/IEC 9899, section 6.2.1).
 use Rattle.std.specs.Prelude.{◌≡◌, ℕ, true, false, List, [], ◌∷◌, ◌++◌, Option, Some, None}
 use Rattle.c_grammar.specs.declared.item.Item.{Item}
@@ -9,7 +9,6 @@ use Rattle.c_scopes.specs.declared.declaration.Entity.TheVariants as entity
 use Rattle.c_types.specs.declared.site.Site.{Site}
 use Rattle.c_types.specs.declared.site.Site.TheVariants as site
 use Rattle.c_types.specs.Sites.{item_sites}
-use Rattle.c_types.specs.Checked.{IsReadProgram, KeepsRules}
 use Rattle.c_semantics.specs.declared.tree.Variable.{Variable}
 use Rattle.c_semantics.specs.ResolvedTree as Tree
 use Rattle.c_resolver.specs.Resolving.{variable_of, function_number, function_tokens, plain_program}
@@ -118,7 +117,7 @@ program_sites p = items_sites [] p.items
 
 -- ---- both are one
 
--- A program that is read from a text and keeps the typing rules mentions, once its names are resolved, what the rules of
--- scope bind its uses to: the same declarations, variables with their classes, arrays with their lengths, and calls.
-abbrev pub NamesAgree : Type 0
-NamesAgree = (p : Program) → IsReadProgram p → KeepsRules p → mentions (plain_program p) ≡ at_sites (function_tokens p.items) (program_sites p)
+-- A program mentions, once its names are resolved, what the rules of scope bind its uses to: the same declarations,
+-- variables with their classes, arrays with their lengths, and calls.
+abbrev pub NamesAgree : Program → Type 0
+NamesAgree p = mentions (plain_program p) ≡ at_sites (function_tokens p.items) (program_sites p)

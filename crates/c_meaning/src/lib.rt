@@ -5,5 +5,7 @@ mod laws;
 mod runs;
 
 pub use c_evaluator::MeanEnd;
-pub use laws::{names_are_those_of_the_scopes, numbers_lead_to_their_functions};
+pub use laws::{
+    names_are_those_of_the_scopes, numbers_lead_to_their_functions, resolved_as_listed,
+};
 pub use runs::mean;

@@ -8,8 +8,8 @@ use crate::statements::statements;
 use crate::typed::variable;
 use aegis_num::{Name, OutOfMemory, UnaryOp};
 use c_grammar::{Item, Parameter, Stmt, Value};
-use c_semantics::{Function, Object, Variable};
 use c_scopes::{Names, class_of, declaration_of, local};
+use c_semantics::{Function, Object, Variable};
 use regions::Class;
 use sqlite_items::Items;
 use std::alloc::Global;
@@ -177,7 +177,14 @@ fn add_function(
             ..
         } => {
             let parameters = params.as_slice();
-            let one = function_in(alloc, functions, names, *private, parameters, body.as_slice())?;
+            let one = function_in(
+                alloc,
+                functions,
+                names,
+                *private,
+                parameters,
+                body.as_slice(),
+            )?;
             done.push(one)?;
             Ok(())
         }

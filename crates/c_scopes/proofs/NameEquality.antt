@@ -49,7 +49,7 @@ name_itself a = by_rooms a a ∙ rw (bytes_itself (room a), length_itself (lengt
 pub names_compare : (a b : List ℕ) → name_eq a b ≡ bytes_eq a b
 names_compare a b = both_or_none (name_eq a b) (bytes_eq a b)
     (λ same.
-        let parts = both (bytes_eq (room a) (room b)) (length a == length b) (sym (by_rooms a b) ∙ same) in
-        (bytes_eq-Decides a b).1 (same-front a b (replicate (MAX_NAME_BYTES - length a) 0) (replicate (MAX_NAME_BYTES - length b) 0)
-        (same_length (length a) (length b) parts.1) ((bytes_eq-Decides (room a) (room b)).0 parts.0)))
+    let parts = both (bytes_eq (room a) (room b)) (length a == length b) (sym (by_rooms a b) ∙ same) in
+    (bytes_eq-Decides a b).1 (same-front a b (replicate (MAX_NAME_BYTES - length a) 0) (replicate (MAX_NAME_BYTES - length b) 0)
+    (same_length (length a) (length b) parts.1) ((bytes_eq-Decides (room a) (room b)).0 parts.0)))
     (λ same. subst (λ c. name_eq a c ≡ true) ((bytes_eq-Decides a b).0 same) (name_itself a))

@@ -61,4 +61,3 @@ parameter p = local p.unsigned p.name p.token
 abbrev pub parameters_of : List Parameter → List Declaration
 parameters_of [] = []
 parameters_of (p ∷ ps) = parameter p ∷ parameters_of ps
-

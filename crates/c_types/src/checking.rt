@@ -9,11 +9,11 @@ ghost use Rattle.c_types.specs.Walks.{first_of};
 use crate::checked::{Checked, Function, Functions, Object, Objects};
 use crate::error::TypeError;
 use crate::items::globals;
-use c_scopes::{Names, class_of};
 use crate::site::Rule;
 use crate::verdict::{Fault, Verdict};
 use aegis_num::OutOfMemory;
 use c_grammar::{Item, Kind3, Program};
+use c_scopes::{Names, class_of};
 use regions::Class;
 use std::alloc::Global;
 

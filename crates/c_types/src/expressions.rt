@@ -3,11 +3,11 @@ ghost use Rattle.std.specs.Prelude.{◌≡◌};
 ghost use Rattle.c_types.specs.Sites.{use_of, expr_sites, part_sites, list_sites};
 ghost use Rattle.c_types.specs.Verdicts.{note, noted};
 
-use c_scopes::Names;
 use crate::site::{Home, How, Site};
 use crate::verdict::Verdict;
 use aegis_num::Name;
 use c_grammar::Expr;
+use c_scopes::Names;
 
 /// Goes past the use of a name.
 pub fn used(names: &Names, home: Home, how: How, name: &Name, token: u32, verdict: &mut Verdict)

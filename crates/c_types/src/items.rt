@@ -5,12 +5,12 @@ ghost use Rattle.c_types.specs.Sites.{length_sites, parameter_sites, function_si
 ghost use Rattle.c_types.specs.Verdicts.{noted, afresh};
 ghost use Rattle.c_types.specs.Walks.{place_of, declared_in, items_noted, HasRoom};
 
-use c_scopes::{Names, declaration_of, local, name_of, token_of};
 use crate::site::{Home, Site};
 use crate::statements::{Context, statements};
 use crate::verdict::Verdict;
 use aegis_num::OutOfMemory;
 use c_grammar::{Item, Parameter, Stmt};
+use c_scopes::{Names, declaration_of, local, name_of, token_of};
 
 /// Goes past the length of an array.
 fn length(length: Option<u32>, token: u32, verdict: &mut Verdict)

@@ -1,6 +1,6 @@
 //! The places of a program at which a typing rule may be broken.
-use c_scopes::Binding;
 use c_grammar::Kind3;
+use c_scopes::Binding;
 
 /// The typing rules. Of several that are broken at one token the first here is answered.
 #[derive(Clone, Copy, Debug, PartialEq, Eq)]

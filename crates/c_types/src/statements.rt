@@ -7,11 +7,11 @@ ghost use Rattle.c_types.specs.Verdicts.{note, noted};
 ghost use Rattle.c_types.specs.Walks.{place_of, declared_in};
 
 use crate::expressions::{expression, expressions, part, used};
-use c_scopes::{Names, local};
 use crate::site::{Home, How, Site};
 use crate::verdict::Verdict;
 use aegis_num::{Name, OutOfMemory};
 use c_grammar::{Expr, Stmt};
+use c_scopes::{Names, local};
 use sqlite_items::Boxed;
 
 /// Where a statement stands.

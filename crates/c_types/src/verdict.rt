@@ -3,10 +3,10 @@ ghost use Rattle.std.specs.Prelude.{◌≡◌, ◌==◌, ◌||◌, not};
 ghost use Rattle.c_types.specs.TypingRules.{is_call, is_whole, is_indexed, is_assignment, is_function, is_array, is_scalar, is_constant, is_private, is_void, is_without_value, at_token, rule_order};
 ghost use Rattle.c_types.specs.Verdicts as spec;
 
-use c_scopes::{Binding, Entity};
 use crate::site::{Home, How, Rule, Site};
 use aegis_num::limits::{MAX_ARRAY_LENGTH, MAX_GLOBALS, MAX_LOCALS, MAX_PARAMETERS};
 use c_grammar::Kind3;
+use c_scopes::{Binding, Entity};
 use regions::Class;
 
 /// A violation: the token, and the rule.
