@@ -13,7 +13,7 @@ use Rattle.c_grammar.proofs.BareParts as same
 use Rattle.c_grammar.proofs.BareParts.{SameExpr, SameList}
 use Rattle.c_grammar.proofs.Alike.{alike, AllAlike, none_left, one_more, Splits, parts, split}
 
--- the same expression, of these tokens
+-- an expression of these tokens that differs in token numbers alone
 abbrev pub SameExpression : ℕ → Expr → List Bounded → Type 0
 SameExpression l x us = (y : Expr) × (Expression l us y × SameExpr x y)
 

@@ -66,7 +66,7 @@ same_private : {ts : List Bounded} {is_private : Bool} → IsPrivate ts is_priva
 same_private IsPrivate.nothing us alike = at_end (λ us. IsPrivate us false) alike IsPrivate.nothing
 same_private (IsPrivate.given at) us alike = at_token (λ us. IsPrivate us true) alike (λ t _ vs p. at_end (λ vs. IsPrivate (word t w.Private ∷ vs) true) p (IsPrivate.given t))
 
--- the same parameters, of these tokens
+-- parameters of these tokens that differ in token numbers alone
 abbrev SameListed : List Parameter → List Bounded → Type 0
 SameListed xs us = (ys : List Parameter) × (AreListed us ys × SameList bare_parameter xs ys)
 
@@ -100,7 +100,7 @@ same_parameters (AreParameters.void at) us alike =
     at_token (SameAll []) alike (λ t _ vs p. at_end (λ vs. SameAll [] (word t w.Void ∷ vs)) p ([], (AreParameters.void t, none_left)))
 same_parameters (AreParameters.some d) us alike = let r = same_listed d us alike in (r.0, (AreParameters.some r.1.0, r.1.1))
 
--- the same declaration, of these tokens
+-- a declaration of these tokens that differs in token numbers alone
 abbrev SameOneItem : Item → List Bounded → Type 0
 SameOneItem x us = (y : Item) × (IsItem us y × SameItem x y)
 

@@ -13,7 +13,7 @@ use Rattle.c_grammar.proofs.BareParts.{SameList, SameOption, SameStmt}
 use Rattle.c_grammar.proofs.Alike.{AllAlike, at_token, at_end, at_parts}
 use Rattle.c_grammar.proofs.AlikeExpressions.{same_expression, same_arguments}
 
--- the same part, of these tokens
+-- a part of these tokens that differs in token numbers alone
 abbrev pub SameType : Spot → Bool → List Bounded → Type 0
 SameType first is_unsigned us = (t : Spot) × (IsType t us is_unsigned × (first.bound ≤ t.bound))
 

@@ -1,4 +1,4 @@
-mod Worked
+pub mod Worked
 mod BareExamples
 pub mod BareForms
 pub mod BareParts

@@ -1,8 +1,14 @@
 -- Worked derivations of the grammar, step by step.
-use Rattle.std.proofs.Common.{◌≡◌, ℕ, suc, true, false, List, [], ◌∷◌, None, Some, refl, arith}
-use Rattle.std.specs.Prelude.{map}
+use Rattle.std.proofs.Common.{◌≡◌, ◌∙◌, ap, sym, subst, ℕ, suc, true, false, List, [], ◌∷◌, None, Some, Err, refl, arith}
+use Rattle.std.specs.Prelude.{map, codes}
+use Rattle.std.specs.Fmt.{digits}
 use Rattle.aegis_num.specs.declared.limits.TheConstants.{MAX_NESTING, MAX_BINARY_OPERATORS}
 use Rattle.c_token.specs.declared.signs.Sign.{Sign as ASign}
+use Rattle.c_token.specs.declared.kinds.Kind.{Kind}
+use Rattle.c_token.specs.declared.kinds.TokenError.TheVariants.{BadByte}
+use Rattle.c_token.specs.PlainText.{plain_text, plain_tokens}
+use Rattle.c_token.specs.TextTokens.{tokens_of, tokens_from, front_at, front_then, put_before, token_of_len, judged, block_comment}
+use Rattle.c_token.proofs.PlainTexts.{reads_back}
 use Rattle.c_token.specs.declared.kinds.Kind.TheVariants.{Name, Number, Word, Sign}
 use Rattle.c_token.specs.declared.words.Word.TheVariants as words
 use Rattle.c_token.specs.declared.signs.Sign.TheVariants as signs
@@ -10,13 +16,14 @@ use Rattle.c_grammar.specs.declared.expr.Expr.TheVariants as expr
 use Rattle.c_grammar.specs.declared.stmt.Stmt.TheVariants as stmt
 use Rattle.c_grammar.specs.declared.item.Item.TheVariants as item
 use Rattle.c_grammar.specs.declared.item.Kind3.TheVariants as kind3
+use Rattle.c_grammar.specs.declared.item.Program.{Program}
 use Rattle.c_grammar.specs.BoundedTokens.{Spot, numbered, bounded_all}
 use Rattle.c_grammar.specs.ExpressionGrammar as e
 use Rattle.c_grammar.specs.ExpressionGrammar.{Expression, Binary, Unary}
 use Rattle.c_grammar.specs.StatementGrammar as s
 use Rattle.c_grammar.specs.StatementGrammar.{Statement, Body}
 use Rattle.c_grammar.specs.ProgramGrammar as p
-use Rattle.c_grammar.specs.TokenPrograms.{AreProgram, limit}
+use Rattle.c_grammar.specs.TokenPrograms.{AreProgram, HasProgram, limit}
 use Rattle.c_grammar.specs.Precedence.{precedence, loosest, is_unary_operator}
 
 -- the token with this number, within the limits
@@ -59,16 +66,21 @@ release : (n value : ℕ) → Statement 0 (bounded_all 64 (numbered n (Word word
     (stmt.Release (expr.Number value false (suc (suc n))) n) false
 release n value = s.simple (at (suc (suc (suc (suc n))))) (s.release (at n) (at (suc n)) (at (suc (suc (suc n)))) (omega arith) (number 1 (suc (suc n)) value))
 
--- `int main(void){release(72);release(105);return 0;}`
-hi : (main : List ℕ) → AreProgram
-    (Word words.Int ∷ Name main ∷ Sign signs.LeftParenthesis ∷ Word words.Void ∷ Sign signs.RightParenthesis ∷ Sign signs.LeftBrace
+-- `int main(void){release(72);release(105);return 0;}`, with this name
+abbrev pub hi_kinds : List ℕ → List Kind
+hi_kinds main =
+    Word words.Int ∷ Name main ∷ Sign signs.LeftParenthesis ∷ Word words.Void ∷ Sign signs.RightParenthesis ∷ Sign signs.LeftBrace
     ∷ Word words.Release ∷ Sign signs.LeftParenthesis ∷ Number 72 false ∷ Sign signs.RightParenthesis ∷ Sign signs.Semicolon
     ∷ Word words.Release ∷ Sign signs.LeftParenthesis ∷ Number 105 false ∷ Sign signs.RightParenthesis ∷ Sign signs.Semicolon
-    ∷ Word words.Return ∷ Number 0 false ∷ Sign signs.Semicolon ∷ Sign signs.RightBrace ∷ [])
-    (record {
-      items = item.Function false kind3.Int main []
-          (stmt.Release (expr.Number 72 false 8) 6 ∷ stmt.Release (expr.Number 105 false 13) 11 ∷ stmt.Return (Some (expr.Number 0 false 17)) 16 ∷ []) 1 ∷ [];
-    })
+    ∷ Word words.Return ∷ Number 0 false ∷ Sign signs.Semicolon ∷ Sign signs.RightBrace ∷ []
+
+abbrev pub hi_program : List ℕ → Program
+hi_program main = record {
+  items = item.Function false kind3.Int main []
+      (stmt.Release (expr.Number 72 false 8) 6 ∷ stmt.Release (expr.Number 105 false 13) 11 ∷ stmt.Return (Some (expr.Number 0 false 17)) 16 ∷ []) 1 ∷ [];
+}
+
+pub hi : (main : List ℕ) → AreProgram (hi_kinds main) (hi_program main)
 hi main = p.AreItems.further (p.function (at 1) (at 2) (at 4) (at 5) (at 19) main p.IsPrivate.nothing (p.IsResult.int (at 0) (s.int (at 0))) (p.AreParameters.void (at 3))
     (s.Body.statement (release 6 72) (s.Body.statement (release 11 105)
     (s.Body.statement (s.return (at 16) (at 18) (omega arith) (s.given (number 1 17 0))) s.Body.nothing)))) p.AreItems.nothing
@@ -94,3 +106,27 @@ unary_operators = refl
 -- the two limits are one
 limits : (limit ≡ MAX_NESTING) × (limit ≡ MAX_BINARY_OPERATORS)
 limits = (refl, refl)
+
+-- the program of a text, and a text that has none
+abbrev hi_text : List ℕ
+hi_text = codes "int main ( void ) { release ( 72 ) ; release ( 105 ) ; return 0 ; }"
+
+hi_spelled : plain_text (hi_kinds (codes "main")) ≡ hi_text
+unfolding digits
+hi_spelled = refl
+
+has_program : HasProgram hi_text (hi_program (codes "main"))
+has_program =
+    let text = reads_back (hi_kinds (codes "main")) refl in
+    record {
+      tokens = plain_tokens 0 (hi_kinds (codes "main"));
+      lexed = ap tokens_of (sym hi_spelled) ∙ text.0;
+      read = subst (λ ks. AreProgram ks (hi_program (codes "main"))) (sym text.1) (hi (codes "main"));
+    }
+
+bad_byte : tokens_of (codes "$") ≡ Err (BadByte 0)
+unfolding tokens_of tokens_from front_at front_then put_before token_of_len judged block_comment
+bad_byte = refl
+
+has_none : (p : Program) → HasProgram (codes "$") p → ⊥
+has_none p has = cc (bad_byte, has.lexed)

@@ -7,5 +7,4 @@ pub mod PrintedExpressions
 pub mod PrintedStatements
 pub mod PrintedPrograms
 pub mod ReadsBack
-pub mod Worked
 pub mod Printable

@@ -1,4 +1,3 @@
 pub mod PrintedTokens
 pub mod ProgramPrinting
 pub mod PrintedParts
-pub mod PrintedExample

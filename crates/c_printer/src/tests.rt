@@ -1,42 +1,40 @@
-ghost use Rattle.std.specs.Prelude.{◌≡◌, ◌<◌, IfOk};
-ghost use Rattle.c_printer.specs.PrintedExample.{release_of, worked_program};
+ghost use Rattle.std.specs.Prelude.{◌≡◌, false, IfOk};
+ghost use Rattle.c_grammar.specs.declared.expr.Expr.TheVariants.{Number};
+ghost use Rattle.c_grammar.proofs.Worked.{hi_program};
 
 use crate::print_program;
 use aegis_num::Name;
 use c_grammar::{Expr, Item, Kind3, Program, Stmt};
 use sqlite_items::Items;
 use std::alloc::{AllocError, Global};
-use std::process::Abort;
 use std::test::Fail;
 
-/// The release of a literal, from this token on.
-fn release(value: u32, token: u32) -> Stmt
-    requires { token < 100 }
-    ensures { result ≡ release_of value token }
+/// A number, at this token.
+fn number(value: u32, token: u32) -> Expr
+    ensures { result ≡ Number value false token }
 {
-    Stmt::Release {
-        value: Expr::Number {
-            value,
-            unsigned: false,
-            token: token + 2,
-        },
+    Expr::Number {
+        value,
+        unsigned: false,
         token,
     }
 }
 
 /// `int main(void){release(72);release(105);return 0;}`
 fn worked(alloc: Global, main: Name) -> Result<Program, AllocError>
-    ensures { IfOk result (λ program. program ≡ worked_program main) }
+    ensures { IfOk result (λ program. program ≡ hi_program main) }
 {
     let mut body = Items::new(alloc);
-    body.push(release(72, 6))?;
-    body.push(release(105, 11))?;
+    body.push(Stmt::Release {
+        value: number(72, 8),
+        token: 6,
+    })?;
+    body.push(Stmt::Release {
+        value: number(105, 13),
+        token: 11,
+    })?;
     body.push(Stmt::Return {
-        value: Some(Expr::Number {
-            value: 0,
-            unsigned: false,
-            token: 17,
-        }),
+        value: Some(number(0, 17)),
         token: 16,
     })?;
     let mut items = Items::new(alloc);

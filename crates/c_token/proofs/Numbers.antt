@@ -35,7 +35,7 @@ module _ (p : ℕ → Bool) where
   has_digits-count : (bytes : List ℕ) (count : ℕ) → prefix_len p bytes ≡ count → has_digits p bytes ≡ (ltb 0 count && is_suffix (drop count bytes))
   has_digits-count bytes count e = ap (λ n. ltb 0 n && is_suffix (drop n bytes)) e
 
-  -- the bytes of a front behind its digits
+  -- the bytes of a front after its digits
   behind_digits : (xs : List ℕ) (m : ℕ) → prefix_len p xs ≤ m → has_digits p (take m xs) ≡ (ltb 0 (prefix_len p xs) && is_suffix (take (m - prefix_len p xs) (drop (prefix_len p xs) xs)))
   behind_digits xs m le =
       let d = prefix_len p xs in
@@ -121,7 +121,7 @@ is_hexadecimal-take text m none =
 positive : (b : ℕ) (bs : List ℕ) → is_ascii_digit b ≡ true → 0 < prefix_len is_ascii_digit (b ∷ bs)
 positive b bs digit = rw (cond-true (is_ascii_digit b) (1 + prefix_len is_ascii_digit bs) 0 digit) (omega arith)
 
--- the front that ends behind the digits and their suffix
+-- the front that ends after the digits and their suffix
 pub spelled-decimal_front : (text : List ℕ) → begins_with is_ascii_digit text ≡ true
     → spelled (take (number_end text (prefix_len is_ascii_digit text)) text) ≡ Some (number_spelled 10 is_ascii_digit (take (number_end text (prefix_len is_ascii_digit text)) text))
 spelled-decimal_front [] digit = absurd (false≢true digit)
@@ -155,7 +155,7 @@ longest-decimal (b ∷ bs) digit none =
 abbrev pub hexadecimal_end : List ℕ → ℕ
 hexadecimal_end text = 2 + prefix_len is_ascii_hexdigit (drop 2 text)
 
--- behind `0x` or `0X`
+-- after `0x` or `0X`
 module _ (c : ℕ) (no_digit : is_ascii_digit c ≡ false) (prefix : (ys : List ℕ) → has_hexadecimal_prefix (48 ∷ c ∷ ys) ≡ true) where
   number_end-prefixed : (ys : List ℕ) (d : ℕ) → number_end (48 ∷ c ∷ ys) (2 + d) ≡ suc (suc (number_end ys d))
   number_end-prefixed ys d =

@@ -90,13 +90,13 @@ number_text at value unsigned rest form parted =
     let ds = decimal value in
     let numeral = decimal_is_IsNumeral value (omega arith) in
     let some : 0 < length ds = numeral.0.0 in
-    let behind = suffix unsigned ++ rest in
-    let text = ds ++ behind in
-    let start = starts_digit ds behind numeral.0.1 some in
+    let after = suffix unsigned ++ rest in
+    let text = ds ++ after in
+    let start = starts_digit ds after numeral.0.1 some in
     let plain = no_prefix ds unsigned rest numeral.0.1 some parted in
-    let run : prefix_len is_ascii_digit text ≡ length ds = prefix_len-run is_ascii_digit ds behind (are_digits ds numeral.0.1) (behind_no_digit unsigned rest parted) in
+    let run : prefix_len is_ascii_digit text ≡ length ds = prefix_len-run is_ascii_digit ds after (are_digits ds numeral.0.1) (behind_no_digit unsigned rest parted) in
     let end : number_end text (length ds) ≡ length (number_spelling value unsigned) =
-    ap (λ bs. length ds + suffix_len bs) (drop_at ds behind (length ds) refl)
+    ap (λ bs. length ds + suffix_len bs) (drop_at ds after (length ds) refl)
     ∙ ap (λ n. length ds + n) (behind_suffix unsigned rest parted)
     ∙ sym (length-append ds (suffix unsigned)) in
     let whole : text ≡ number_spelling value unsigned ++ rest = sym (append_assoc ds (suffix unsigned) rest) in
@@ -106,7 +106,7 @@ number_text at value unsigned rest form parted =
     ap (λ n. drop n text) end ∙ ap (λ bs. drop (length (number_spelling value unsigned)) bs) whole ∙ drop_at (number_spelling value unsigned) rest _ refl in
     let value_is : digits_value 10 (take (length ds - 0) (drop 0 text)) ≡ value =
     ap (λ n. digits_value 10 (take n text)) (let same : length ds - 0 ≡ length ds = omega arith in same)
-    ∙ ap (digits_value 10) (take_at ds behind (length ds) refl) ∙ numeral.1 in
+    ∙ ap (digits_value 10) (take_at ds after (length ds) refl) ∙ numeral.1 in
     let zero_free : has_leading_zero (take (number_end text (length ds)) text) ≡ false =
     ap has_leading_zero front ∙ no_zero ds (suffix unsigned) (decimal_first value (omega arith)) some (suffix_is_no_digit unsigned) in
     let letter_free : begins_with is_name_byte (drop (number_end text (length ds)) text) ≡ false =

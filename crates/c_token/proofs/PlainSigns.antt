@@ -19,7 +19,7 @@ use Rattle.c_token.proofs.PlainFronts.{is_parted}
 abbrev begins_sign : ℕ → Bool
 begins_sign b = not (is_name_start b) && (not (is_ascii_digit b) && not (is_blank b))
 
--- bytes that a space behind them makes no longer sign, and that open no comment
+-- bytes that a space after them makes no longer sign, and that open no comment
 abbrev is_plain_sign : List ℕ → Bool
 is_plain_sign [] = false
 is_plain_sign (b ∷ []) = begins_sign b && not (is_some (sign_spelled (b ∷ 32 ∷ [])))

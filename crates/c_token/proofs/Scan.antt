@@ -27,11 +27,11 @@ unfolding tokens_from front_then
 front_first at [] front pos le found = absurd (omega arith)
 front_first at (b ∷ bs) front pos le found =
     ap (front_then at (λ left. tokens_from (at + 1) left bs)) found
-    ∙ ap (put_before at front.kind) (behind (front.len) pos le)
+    ∙ ap (put_before at front.kind) (beyond (front.len) pos le)
   where
-    behind : (n : ℕ) → 0 < n → n ≤ suc (length bs) → tokens_from (at + 1) (n - 1) bs ≡ tokens_from (at + n) 0 (drop n (b ∷ bs))
-    behind zero pos le = absurd (omega arith)
-    behind (suc n) pos le =
+    beyond : (n : ℕ) → 0 < n → n ≤ suc (length bs) → tokens_from (at + 1) (n - 1) bs ≡ tokens_from (at + n) 0 (drop n (b ∷ bs))
+    beyond zero pos le = absurd (omega arith)
+    beyond (suc n) pos le =
         let pred : suc n - 1 ≡ n = omega arith in
         ap (λ left. tokens_from (at + 1) left bs) pred
         ∙ passed (at + 1) n bs (omega arith)

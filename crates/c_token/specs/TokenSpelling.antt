@@ -9,13 +9,17 @@ use Rattle.c_token.specs.declared.kinds.Kind.TheVariants as kinds
 use Rattle.c_token.specs.WordSpelling.{word_spelled}
 use Rattle.c_token.specs.SignSpelling.{sign_spelled}
 
--- a letter or `_`, which is 95
+-- `_`
+abbrev pub underscore : ℕ
+underscore = 95
+
+-- a letter or `_`
 abbrev pub is_name_start : ℕ → Bool
-is_name_start b = is_ascii_alphabetic b || (b == 95)
+is_name_start b = is_ascii_alphabetic b || (b == underscore)
 
 -- a letter, a digit or `_`
 abbrev pub is_name_byte : ℕ → Bool
-is_name_byte b = is_ascii_alphanumeric b || (b == 95)
+is_name_byte b = is_ascii_alphanumeric b || (b == underscore)
 
 -- A name is a letter or `_`, then letters, digits and `_` (6.4.2.1).
 abbrev pub is_name : List ℕ → Bool

@@ -11,7 +11,7 @@ use Rattle.c_token.proofs.NumberReads.{decimal_is_numeral, hexadecimal_is_numera
 use Rattle.c_token.proofs.front.Front.number.Goals as goal
 use Rattle.c_token.proofs.front.Front.number.Goals.{After-hexadecimal_len-end}
 
--- the digits behind the prefix
+-- the digits after the prefix
 digits : (c : After-hexadecimal_len-end) → c.hexadecimal_len-end.result ≡ prefix_len is_ascii_hexdigit (drop 2 c.args.text.now)
 digits c = c.hexadecimal_len-end.ensures.len ∙ ap (prefix_len is_ascii_hexdigit) (take_rest c.args.text.now 2)
 
