@@ -24,7 +24,7 @@ use Rattle.c_types.specs.Checked.{IsTyped}
 use Rattle.aegis_run.proofs.TypingLemmas.{typed_refused, one_type_error}
 use Rattle.c_reader.specs.declared.error.SyntaxError.{SyntaxError}
 use Rattle.c_reader.specs.declared.error.SyntaxError.TheVariants as syntax
-use Rattle.c_reader.specs.Refusals.{IsRefusedAs, OneProgram}
+use Rattle.c_reader.specs.SourceText.{IsRefusedAs, OneProgram}
 use Rattle.aegis_run.specs.declared.ends.TopEnd.{TopEnd}
 use Rattle.aegis_run.specs.declared.ends.TopEnd.TheVariants.{Run, Mean, Usage, TooLong, Token as TokenEnd, Syntax, Typing, NotYet, NoFile, ReadFault, WriteFault, OutOfMemory}
 use Rattle.aegis_run.specs.Literals.{number_in, released_by, returns_literal, in_front, body_literals, is_nothing, item_literals, items_literals, literals_of}

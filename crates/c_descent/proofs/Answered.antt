@@ -9,14 +9,14 @@ use Rattle.c_grammar.specs.TokenPrograms.{limit, AreProgram, AreLimited, IsUnlim
 use Rattle.c_grammar.proofs.Alike.{AllAlike, none_left, one_more}
 use Rattle.c_grammar.proofs.AlikeKinds.{kind_alike, kinds-numbered}
 use Rattle.c_grammar.proofs.AlikePrograms.{same_program}
-use Rattle.c_descent.specs.ListParser.{Reason, expected, deep, exhausted, Outcome, done, stop, place_or}
+use Rattle.c_descent.specs.ListParser.{Reason, expected, deep, exhausted, ParseOutcome, done, stop, place_or}
 use Rattle.c_descent.specs.ProgramParser.{program}
 use Rattle.c_descent.proofs.Holds.{Alike, Opens, Holds, reaches, stops, Stops}
 use Rattle.c_descent.proofs.Comes.{To, arrives, late}
 use Rattle.c_descent.proofs.Declaring.{program_at}
 use Rattle.c_descent.proofs.Recognising.{program_goes}
 
-abbrev read : List Tok → Outcome Program
+abbrev read : List Tok → ParseOutcome Program
 read s = program limit limit s
 
 -- tokens numbered anew
@@ -103,7 +103,7 @@ numbered-append n [] ks = ap (λ m. numbered m ks) (omega arith)
 numbered-append n (j ∷ js) ks = ap (λ s. record { place = n; kind = j } ∷ s) (numbered-append (suc n) js ks ∙ ap (λ m. numbered (suc n) js ++ numbered m ks) (omega arith))
 
 -- different outcomes
-reason_of : Outcome Program → Reason
+reason_of : ParseOutcome Program → Reason
 reason_of (done p s) = exhausted
 reason_of (stop reason s) = reason
 
@@ -115,11 +115,11 @@ is_expected : Reason → Bool
 is_expected expected = true
 is_expected _ = false
 
-left_of : Outcome Program → List Tok
+left_of : ParseOutcome Program → List Tok
 left_of (done p s) = s
 left_of (stop reason s) = s
 
-program_of : Program → Outcome Program → Program
+program_of : Program → ParseOutcome Program → Program
 program_of d (done p s) = p
 program_of d (stop reason s) = d
 
@@ -131,7 +131,7 @@ done_expected : {p : Program} {r s : List Tok} → done p r ≡ stop expected s 
 unfolding reason_of is_expected
 done_expected e = true≢false (sym (ap (λ o. is_expected (reason_of o)) e))
 
-deep_expected : (o : Outcome Program) (r s : List Tok) → o ≡ stop deep r → o ≡ stop expected s → ⊥
+deep_expected : (o : ParseOutcome Program) (r s : List Tok) → o ≡ stop deep r → o ≡ stop expected s → ⊥
 unfolding reason_of is_expected
 deep_expected o r s d e = true≢false (ap (λ o. is_expected (reason_of o)) (sym e) ∙ ap (λ o. is_expected (reason_of o)) d)
 
@@ -147,7 +147,7 @@ record Late (tokens : List Bounded) : Type 0 where
 Understood : List Bounded → Type 0
 Understood tokens = ((p : Program) × (read (numbered 0 (bounded_kinds tokens)) ≡ done p [])) ⊎ Late tokens
 
-to_cases : (tokens : List Bounded) (p : Program) (o : Outcome Program) → read (numbered 0 (bounded_kinds tokens)) ≡ o → To limit (replaced 0 tokens) [] (done p []) o → Understood tokens
+to_cases : (tokens : List Bounded) (p : Program) (o : ParseOutcome Program) → read (numbered 0 (bounded_kinds tokens)) ≡ o → To limit (replaced 0 tokens) [] (done p []) o → Understood tokens
 unfolding Understood
 to_cases tokens p o e arrives = inl (p, e)
 to_cases tokens p o e (late before t after q h) = inr record { before = before; t = t; after = after; parts = q; above = h; outcome = e ∙ ap (λ s. stop deep (tok_of t ∷ s)) (append-nil (toks_of after)) }
@@ -210,7 +210,7 @@ toks_bounded : (toks : List Tok) → toks_of (bounded_all limit toks) ≡ toks
 toks_bounded [] = refl
 toks_bounded (t ∷ toks) = ap (λ s. t ∷ s) (toks_bounded toks)
 
-read_go : (kinds : List Kind) (p : Program) (o : Outcome Program) → To limit (bounded_all limit (numbered 0 kinds)) [] (done p []) o → o ≡ done p []
+read_go : (kinds : List Kind) (p : Program) (o : ParseOutcome Program) → To limit (bounded_all limit (numbered 0 kinds)) [] (done p []) o → o ≡ done p []
 read_go kinds p o arrives = refl
 read_go kinds p o (late before t after e h) = absurd (omega (arith, h, no_late 0 (numbered 0 kinds) before t after e))
 

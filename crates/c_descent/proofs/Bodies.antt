@@ -15,9 +15,9 @@ use Rattle.c_descent.specs.declared.parts.Start.{Start}
 use Rattle.c_descent.specs.declared.parts.Start.TheVariants as start
 use Rattle.c_descent.specs.declared.parts.LoopHead.{LoopHead}
 use Rattle.c_descent.specs.declared.parts.Braces.{Braces}
-use Rattle.c_descent.specs.ListParser.{Reason, expected, deep, Outcome, done, stop, Parser, follow, ◌>>=◌, gives, refuses, first_kind, is_at_word, sign, word, level}
+use Rattle.c_descent.specs.ListParser.{Reason, expected, deep, ParseOutcome, done, stop, Parser, follow, ◌>>=◌, gives, refuses, first_kind, is_at_word, sign_token, word_token, level}
 use Rattle.c_descent.specs.StatementParser as p
-use Rattle.c_descent.specs.StatementParser.{start_of, start_at, plain_of, plain_at, begins_simple, begins_statement}
+use Rattle.c_descent.specs.StatementParser.{statement_start, start_at, plain_of, plain_at, begins_simple, begins_statement}
 use Rattle.c_descent.proofs.Holds.{Seq, seq, Mapped, mapped, Alike, Holds, reaches, stops, Reaches, HoldsAt, Always, Full, mono, bind, then_reads, before, bind_at, mapping, mapped_at, by_first, dispatch, head_kind, Nothing, nothing, giving, free, no_text, full_seq, full_mapped, full_sign, Takes, Many, none_left, one_more, OpensSign, opens_sign, OpensWord, opens_word, above, above_at, above_ok, opening_sign, opening_word, deep_first, IsSign, is_sign, signing, IsWord, is_word, wording, refusing}
 use Rattle.c_descent.proofs.Lists.{head_sign, head_word, listing}
 use Rattle.c_descent.proofs.Chains.{zero_expression}
@@ -36,14 +36,14 @@ is_local _ = false
 
 pub head_start : (s t : List Tok) → Alike s t → start_at s ≡ start_at t
 unfolding start_at
-head_start s t a = ap start_of (head_kind s t a)
+head_start s t a = ap statement_start (head_kind s t a)
 
 pub head_plain : (s t : List Tok) → Alike s t → plain_at s ≡ plain_at t
 unfolding plain_at
 head_plain s t a = ap plain_of (head_kind s t a)
 
 module _ (l : ℕ) where
-  local_deep : (k : Kind) → is_local (start_of (Some k)) ≡ true → (place : ℕ)
+  local_deep : (k : Kind) → is_local (statement_start (Some k)) ≡ true → (place : ℕ)
       → (more : List Bounded) × (x : Stmt) × Local l (record { spot = above_at l place; kind = k } ∷ more) x
   unfolding is_local
   local_deep (kinds.Word words.Int) e place = (_, _, gr.plain (above_at l place) free no_text (above_ok l place) (gr.int (above_at l place)))
@@ -75,7 +75,7 @@ module _ (l : ℕ) where
 empty_above : (l : ℕ) → (ts : List Bounded) × (x : Stmt) × Statement l ts x false
 empty_above l = (_, _, gr.empty (above l) (above_ok l 0))
 
-statement_deep : (l : ℕ) (k : Kind) → begins_statement (start_of (Some k)) ≡ true → (place : ℕ)
+statement_deep : (l : ℕ) (k : Kind) → begins_statement (statement_start (Some k)) ≡ true → (place : ℕ)
     → (more : List Bounded) × (x : Stmt) × St l (record { spot = above_at l place; kind = k } ∷ more) x
 unfolding St
 statement_deep l (kinds.Name x) e place = (_, _, (false, gr.simple free (gr.assign x (above_at l place) free (above_ok l place) (zero_expression (suc l)))))
@@ -95,9 +95,9 @@ statement_deep l (kinds.Number x u) e place = absurd (true≢false (sym e))
 
 -- where so many levels are open, and so many are left
 module _ (limit : ℕ) where
-  pub local_at : (n l : ℕ) → l + n ≡ limit → (s : List Tok) → is_local (start_at s) ≡ true → Holds limit (p.local limit n) (Local l) s (p.local limit n s)
-  unfolding p.local is_local start_at
-  local_at zero l e s q = deep_on limit s (suc l) (λ o. is_local (start_of o)) refl q (local_deep l)
+  pub local_at : (n l : ℕ) → l + n ≡ limit → (s : List Tok) → is_local (start_at s) ≡ true → Holds limit (p.local_statement limit n) (Local l) s (p.local_statement limit n s)
+  unfolding p.local_statement is_local start_at
+  local_at zero l e s q = deep_on limit s (suc l) (λ o. is_local (statement_start o)) refl q (local_deep l)
   local_at (suc n) l e s q = mono limit (local_made limit n l (omega (arith, e))) (local_inside_at limit n l (omega (arith, e)) s)
 
   full_simple : (l : ℕ) → Full (Simple l)
@@ -201,7 +201,7 @@ module _ (limit : ℕ) where
 
 -- where a parser is done
 module _ {A : Type 0} where
-  rest_of : List Tok → Outcome A → List Tok
+  rest_of : List Tok → ParseOutcome A → List Tok
   rest_of d (done x rest) = rest
   rest_of d (stop reason rest) = d
 
@@ -209,7 +209,7 @@ module _ {A : Type 0} where
   unfolding rest_of
   same_rest x y r s e = ap (rest_of r) e
 
-  ended_done : Outcome A → Bool
+  ended_done : ParseOutcome A → Bool
   ended_done (done x rest) = true
   ended_done (stop reason rest) = false
 
@@ -217,7 +217,7 @@ module _ {A : Type 0} where
   unfolding ended_done
   not_done e = true≢false (sym (ap ended_done e))
 
-done_follow : {A B : Type 0} (o : Outcome A) (f : A → Parser B) (x : B) (rest : List Tok) → follow o f ≡ done x rest
+done_follow : {A B : Type 0} (o : ParseOutcome A) (f : A → Parser B) (x : B) (rest : List Tok) → follow o f ≡ done x rest
     → (y : A) × (left : List Tok) × (o ≡ done y left) × (f y left ≡ done x rest)
 done_follow (done y left) f x rest e = (y, left, refl, e)
 done_follow (stop reason left) f x rest e = absurd (not_done e)
@@ -358,7 +358,7 @@ module _ (limit : ℕ) where
         → Seq (λ ts x. Statement (suc l) ts x false) (λ body. Mapped (ElseR (λ ts x. Statement (suc l) ts x takes)) (λ other. other_of place test body other)) ts x → Tail place test ts x takes
     else_made takes place test _ x (seq {y = body} ts us b (mapped other h q)) = subst (λ x. Tail place test (ts ++ us) x takes) (sym q) (else_one takes place test ts body b us other h)
 
-    -- the same, whatever follows the other statement
+    -- whatever follows the other statement
     pick : (place : ℕ) (test : Expr) (ts : List Bounded) (body : Stmt) → Statement (suc l) ts body false → (us : List Bounded) (other : Option Stmt)
         → ElseR (St (suc l)) us other → AnyTail place test (ts ++ us) (other_of place test body other)
     unfolding ElseR AnyTail St other_of
@@ -387,7 +387,7 @@ module _ (limit : ℕ) where
     tail_with place test s rest body q h false a = mono limit (lone_made place test)
         (then_reads limit _ (reached h) (mapped_at limit (other_of place test body) (lone_at rest a)))
 
-    tail_go : (place : ℕ) (test : Expr) (s : List Tok) (o : Outcome Stmt) → S s ≡ o → Holds limit S (St (suc l)) s o
+    tail_go : (place : ℕ) (test : Expr) (s : List Tok) (o : ParseOutcome Stmt) → S s ≡ o → Holds limit S (St (suc l)) s o
         → Holds limit (S >>= after_body place test) (AnyTail place test) s (follow o (after_body place test))
     tail_go place test s (done body rest) q h = tail_with place test s rest body q h (is_at_word words.Else rest) refl
     tail_go place test s (stop reason rest) q (stops h) = mono limit (lone_made place test)
@@ -402,7 +402,7 @@ module _ (limit : ℕ) where
 
     -- the other statement ends before an `else`
     else_read : Parser (Option Stmt)
-    else_read s = follow (word words.Else s) (λ _ t. follow (S t) (λ other. gives (Some other)))
+    else_read s = follow (word_token words.Else s) (λ _ t. follow (S t) (λ other. gives (Some other)))
 
     else_if : Bool → Parser (Option Stmt)
     else_if b s = cond b (else_read s) (done None s)
@@ -412,7 +412,7 @@ module _ (limit : ℕ) where
     unfolding p.optional_else ElseR else_read else_if
     other_end s x rest q a b = by_first limit (is_at_word words.Else) else_if (head_word words.Else)
         (subst (λ t. Holds limit (else_if t) (ElseR (λ ts x. Statement (suc l) ts x false)) s (done x rest)) (sym a)
-        (bind_end (word words.Else) _ s x rest (ap (λ t. cond t (else_read s) (done None s)) (sym a) ∙ q) (wording limit words.Else s)
+        (bind_end (word_token words.Else) _ s x rest (ap (λ t. cond t (else_read s) (done None s)) (sym a) ∙ q) (wording limit words.Else s)
         (λ _ s1 _ q1. mapped_end S Some s1 x rest q1 (λ y r. shut s1 y rest r b))))
 
     lone_end : (place : ℕ) (test : Expr) (body x : Stmt) (s rest : List Tok) → is_at_word words.Else s ≡ false → after_body place test body s ≡ done x rest → s ≡ rest
@@ -527,13 +527,13 @@ module _ (limit n l : ℕ) (e : l + n ≡ limit) {S : Parser Stmt} (always : Alw
       each start.For q = mono limit st_entry (always s)
       each start.Other q = mono limit st_entry (always s)
 
-  pub head_goes : (s t : List Tok) → Alike s t → p.goes_on s ≡ p.goes_on t
-  unfolding p.goes_on
+  pub head_goes : (s t : List Tok) → Alike s t → p.block_goes_on s ≡ p.block_goes_on t
+  unfolding p.block_goes_on
   head_goes s t a = ap not (head_sign signs.RightBrace s t a)
 
   pub entries_at : Always limit (p.entries limit n S) (Body l)
   unfolding p.entries
-  entries_at s = mono limit (body_made l) (listing limit p.goes_on head_goes entry_at (entry_takes l) s)
+  entries_at s = mono limit (body_made l) (listing limit p.block_goes_on head_goes entry_at (entry_takes l) s)
 
   -- `{`, locals and statements, and `}`
   unfoldable pub Braced : (List Bounded → ℕ → Type 0) → List Bounded → Braces → Type 0
@@ -542,7 +542,7 @@ module _ (limit n l : ℕ) (e : l + n ≡ limit) {S : Parser Stmt} (always : Alw
   pub full_body : Full (Body l)
   full_body = ([], [], gr.nothing)
 
-  pub braced_at : {Q : List Bounded → ℕ → Type 0} → Always limit (sign signs.LeftBrace) Q → Always limit (p.braced limit n S) (Braced Q)
+  pub braced_at : {Q : List Bounded → ℕ → Type 0} → Always limit (sign_token signs.LeftBrace) Q → Always limit (p.braced limit n S) (Braced Q)
   unfolding p.braced Braced
   braced_at q = bind limit _ (λ place. full_seq full_body (λ body. full_mapped _ (full_sign signs.RightBrace))) q
       (λ place. bind limit _ (λ body. full_mapped _ (full_sign signs.RightBrace)) entries_at (λ body. mapping limit _ (signing limit signs.RightBrace)))
@@ -556,8 +556,8 @@ module _ (limit n l : ℕ) (e : suc l + n ≡ limit) {S : Parser Stmt} (always :
       subst (λ x. Statement l (g.sign left signs.LeftBrace ∷ ts ++ g.sign right signs.RightBrace ∷ []) x false)
       (sym (r ∙ ap (λ parts. stmt.Block parts.body parts.token) q)) (gr.block left right h b)
 
-  block_at : Always limit (p.block limit n S) (λ ts x. Statement l ts x false)
-  unfolding p.block
+  block_at : Always limit (p.block_statement limit n S) (λ ts x. Statement l ts x false)
+  unfolding p.block_statement
   block_at s = mono limit block_made (mapping limit _ (braced_at limit n (suc l) e always (opening_sign limit l signs.LeftBrace (omega (arith, e)))) s)
 
   refused : Always limit refuses (St l)
@@ -582,7 +582,7 @@ module _ (limit n l : ℕ) (e : suc l + n ≡ limit) {S : Parser Stmt} (always :
   inside_shut s x rest q a = by_first limit start_at (p.statement_by limit n S) head_start (each (start_at s) q)
     where
       each : (k : Start) → p.statement_by limit n S k s ≡ done x rest → Holds limit (p.statement_by limit n S k) (λ ts x. Statement l ts x false) s (done x rest)
-      each start.Block q = subst (λ o. Holds limit (p.block limit n S) (λ ts x. Statement l ts x false) s o) q (block_at s)
+      each start.Block q = subst (λ o. Holds limit (p.block_statement limit n S) (λ ts x. Statement l ts x false) s o) q (block_at s)
       each start.Empty q = subst (λ o. Holds limit p.empty (λ ts x. Statement l ts x false) s o) q (empty_at limit n l e s)
       each start.Plain q = subst (λ o. Holds limit (p.ended (p.plain_inside limit n)) (λ ts x. Statement l ts x false) s o) q (plain_ended_at limit n l e s)
       each start.If q = if_shut limit n l e always shut s x rest q a
@@ -599,7 +599,7 @@ barred_at limit l s = dispatch limit (λ s. begins_statement (start_at s)) barre
     barred_if b s = cond b (stop deep s) (stop expected s)
 
     each : (b : Bool) → begins_statement (start_at s) ≡ b → Holds limit (barred_if b) (St l) s (barred_if b s)
-    each true q = deep_on limit s (suc l) (λ o. begins_statement (start_of o)) refl q (statement_deep l)
+    each true q = deep_on limit s (suc l) (λ o. begins_statement (statement_start o)) refl q (statement_deep l)
     each false q = refusing limit (_, _, st l _ _ (empty_above l).2) s
 
 barred_never : (s : List Tok) (x : Stmt) (rest : List Tok) → p.barred s ≡ done x rest → ⊥

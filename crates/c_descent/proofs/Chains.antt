@@ -12,8 +12,8 @@ use Rattle.c_grammar.specs.BoundedTokens.{Tok, Spot, Bounded, tok_of, bounded, b
 use Rattle.c_grammar.specs.Precedence.{precedence}
 use Rattle.c_grammar.specs.ExpressionGrammar.{Expression, whole, Binary, alone, tighter, both, Unary, primary, literal}
 use Rattle.c_descent.specs.declared.parts.Grown.{Grown}
-use Rattle.c_descent.specs.ListParser.{deep, Outcome, done, stop, Parser, follow, ◌>>=◌, gives, first_kind, sign}
-use Rattle.c_descent.specs.ExpressionParser.{operator_of, operator_at, joined, chain_with, chain, chained, binary}
+use Rattle.c_descent.specs.ListParser.{deep, ParseOutcome, done, stop, Parser, follow, ◌>>=◌, gives, first_kind, sign_token}
+use Rattle.c_descent.specs.ExpressionParser.{operator_of, operator_at, joined_operand, chain_with, chain, chained, binary_expression}
 use Rattle.c_descent.proofs.Holds.{Seq, seq, Mapped, mapped, Alike, Holds, Always, Full, mono, bind, bind_known, mapping, same_parser, dispatch, head_kind, Nothing, nothing, giving, free, full_mapped, Takes, strict_of, OpensSign, opens_sign, above_at, above_ok, opening_sign, deep_first}
 
 -- an operator of this rank stands first
@@ -83,14 +83,14 @@ module _ (limit l k : ℕ) {operand : ℕ → Parser Grown} (always : (used : �
   join_joins op left e _ x (seq ts us (opens_sign at h) r) = right_joins op left at e h us x r
 
   reading : Sign → Grown → Parser Grown
-  reading op left = sign op >>= (λ place. operand (left.used + 1) >>= (λ right. gives (made op left place right)))
+  reading op left = sign_token op >>= (λ place. operand (left.used + 1) >>= (λ right. gives (made op left place right)))
 
   tested : Sign → Grown → Bool → Parser Grown
   tested op left true = reading op left
   tested op left false = λ s. stop deep s
 
-  joined_tested : (op : Sign) (left : Grown) (s : List Tok) → joined limit operand op left s ≡ tested op left (ltb left.used limit) s
-  unfolding joined tested reading made
+  joined_tested : (op : Sign) (left : Grown) (s : List Tok) → joined_operand limit operand op left s ≡ tested op left (ltb left.used limit) s
+  unfolding joined_operand tested reading made
   joined_tested op left s = go (ltb left.used limit)
     where
       go : (b : Bool) → cond b (reading op left s) (stop deep s) ≡ tested op left b s
@@ -115,20 +115,20 @@ module _ (limit l k : ℕ) {operand : ℕ → Parser Grown} (always : (used : �
   join_at op left s e false h = deep_first limit s (kinds.Sign op) e (suc left.used) (one_deep op left)
 
   joining : (op : Sign) (left : Grown) (s : List Tok) → first_kind s ≡ Some (kinds.Sign op)
-      → Holds limit (joined limit operand op left) (Join op left) s (joined limit operand op left s)
-  joining op left s e = subst (λ o. Holds limit (joined limit operand op left) (Join op left) s o) (sym (joined_tested op left s))
+      → Holds limit (joined_operand limit operand op left) (Join op left) s (joined_operand limit operand op left s)
+  joining op left s e = subst (λ o. Holds limit (joined_operand limit operand op left) (Join op left) s o) (sym (joined_tested op left s))
       (same_parser limit {p = tested op left (ltb left.used limit)} (joined_tested op left) (join_at op left s e (ltb left.used limit) refl))
 
   -- one operator after another
   onward : ℕ → Option Sign → Grown → Parser Grown
   onward n None left = gives left
-  onward n (Some op) left = joined limit operand op left >>= chain limit operand (suc k) n
+  onward n (Some op) left = joined_operand limit operand op left >>= chain limit operand (suc k) n
 
   chain_onward : (n : ℕ) (left : Grown) (s : List Tok) → chain limit operand (suc k) (suc n) left s ≡ onward n (operator_at (suc k) s) left s
   unfolding chain onward
   chain_onward n left s = go (operator_at (suc k) s)
     where
-      go : (o : Option Sign) → chain_with (λ op. follow (joined limit operand op left s) (chain limit operand (suc k) n)) left s o ≡ onward n o left s
+      go : (o : Option Sign) → chain_with (λ op. follow (joined_operand limit operand op left s) (chain limit operand (suc k) n)) left s o ≡ onward n o left s
       go None = refl
       go (Some op) = refl
 
@@ -141,13 +141,13 @@ module _ (limit l k : ℕ) {operand : ℕ → Parser Grown} (always : (used : �
   rank_known s op e = (operator_known (suc k) (first_kind s) op e).1
 
   join_strict : (s : List Tok) (op : Sign) → operator_at (suc k) s ≡ Some op → (left x : Grown) (rest : List Tok)
-      → joined limit operand op left s ≡ done x rest → length rest < length s
-  join_strict s op e left x rest = strict_of limit (join_takes op left) s (joined limit operand op left s) (joining op left s (first_known s op e)) x rest
+      → joined_operand limit operand op left s ≡ done x rest → length rest < length s
+  join_strict s op e left x rest = strict_of limit (join_takes op left) s (joined_operand limit operand op left s) (joining op left s (first_known s op e)) x rest
 
   Agree : ℕ → ℕ → Type 0
   Agree n m = (left : Grown) (s : List Tok) → length s < n → length s < m → chain limit operand (suc k) n left s ≡ chain limit operand (suc k) m left s
 
-  rests : (n m : ℕ) (s : List Tok) → length s < suc n → length s < suc m → Agree n m → (o : Outcome Grown)
+  rests : (n m : ℕ) (s : List Tok) → length s < suc n → length s < suc m → Agree n m → (o : ParseOutcome Grown)
       → ((x : Grown) (rest : List Tok) → o ≡ done x rest → length rest < length s)
       → follow o (chain limit operand (suc k) n) ≡ follow o (chain limit operand (suc k) m)
   unfolding Agree
@@ -158,7 +158,7 @@ module _ (limit l k : ℕ) {operand : ℕ → Parser Grown} (always : (used : �
       → operator_at (suc k) s ≡ o → onward n o left s ≡ onward m o left s
   unfolding onward
   onwards n m left s a b h None e = refl
-  onwards n m left s a b h (Some op) e = rests n m s a b h (joined limit operand op left s) (join_strict s op e left)
+  onwards n m left s a b h (Some op) e = rests n m s a b h (joined_operand limit operand op left s) (join_strict s op e left)
 
   enough : (n m : ℕ) → Agree n m
   unfolding Agree
@@ -169,9 +169,9 @@ module _ (limit l k : ℕ) {operand : ℕ → Parser Grown} (always : (used : �
   -- the whole chain, as its first operator and the rest
   unfoldable pub turn : Option Sign → Grown → Parser Grown
   turn None left = gives left
-  turn (Some op) left = joined limit operand op left >>= chained limit operand (suc k)
+  turn (Some op) left = joined_operand limit operand op left >>= chained limit operand (suc k)
 
-  all_rest : (s : List Tok) (o : Outcome Grown) → ((x : Grown) (rest : List Tok) → o ≡ done x rest → length rest < length s)
+  all_rest : (s : List Tok) (o : ParseOutcome Grown) → ((x : Grown) (rest : List Tok) → o ≡ done x rest → length rest < length s)
       → follow o (chain limit operand (suc k) (length s)) ≡ follow o (chained limit operand (suc k))
   unfolding chained Agree
   all_rest s (done x left) short = enough (length s) (suc (length left)) x left (short x left refl) (omega arith)
@@ -180,7 +180,7 @@ module _ (limit l k : ℕ) {operand : ℕ → Parser Grown} (always : (used : �
   all_onward : (left : Grown) (s : List Tok) (o : Option Sign) → operator_at (suc k) s ≡ o → onward (length s) o left s ≡ turn o left s
   unfolding onward turn
   all_onward left s None e = refl
-  all_onward left s (Some op) e = all_rest s (joined limit operand op left s) (join_strict s op e left)
+  all_onward left s (Some op) e = all_rest s (joined_operand limit operand op left s) (join_strict s op e left)
 
   pub chained_turn : (left : Grown) (s : List Tok) → chained limit operand (suc k) left s ≡ turn (operator_at (suc k) s) left s
   unfolding chained
@@ -198,7 +198,7 @@ module _ (limit l k : ℕ) {operand : ℕ → Parser Grown} (always : (used : �
   unfolding turn Upto
   each n h left s a None e = mono limit (joins_nothing left) (giving limit left s)
   each n h left s a (Some op) e = mono limit (joins_on left op (rank_known s op e))
-      (bind_known limit (chained limit operand (suc k)) s (joined limit operand op left s) refl
+      (bind_known limit (chained limit operand (suc k)) s (joined_operand limit operand op left s) refl
       (λ y. ([], y, joins_nothing y [] y nothing)) (joining op left s (first_known s op e))
       (λ y rest j. h y rest (omega (arith, join_strict s op e left y rest j, a))))
 
@@ -225,7 +225,7 @@ module _ (limit l : ℕ) {unary : Parser Expr} (always : Always limit unary (Una
   alone_made : (used : ℕ) (ts : List Bounded) (x : Grown) → Mapped (Unary l) (λ tree. record { tree = tree; used = used }) ts x → Operand l zero used ts x
   alone_made used ts x (mapped tree u e) = subst (λ x. Operand l zero used ts x) (sym e) (alone u)
 
-  pub binary_at : (k used : ℕ) → Always limit (binary limit unary k used) (Operand l k used)
-  unfolding binary
+  pub binary_at : (k used : ℕ) → Always limit (binary_expression limit unary k used) (Operand l k used)
+  unfolding binary_expression
   binary_at zero used s = mono limit (alone_made used) (mapping limit _ always s)
   binary_at (suc k) used s = ranking limit l k (binary_at k) used s

@@ -3,7 +3,7 @@ use Rattle.std.proofs.Common.{◌≡◌, ℕ, Bool, true, false, List, [], ◌�
 use Rattle.c_token.specs.declared.signs.Sign.TheVariants as signs
 use Rattle.c_grammar.specs.BoundedTokens as g
 use Rattle.c_grammar.specs.BoundedTokens.{Tok, Spot, Bounded, tok_of, toks_of}
-use Rattle.c_descent.specs.ListParser.{done, Parser, follow, is_at_sign, sign, all, after_comma, separated}
+use Rattle.c_descent.specs.ListParser.{done, Parser, follow, is_at_sign, sign_token, all, after_comma, separated}
 use Rattle.c_descent.proofs.Holds.{Alike, Always, Full, Takes, Seq, seq, Mapped, mapped, Many, none_left, one_more, is_sign}
 use Rattle.c_descent.proofs.Lists.{Comma, all_turn, turn, after_one, head_sign, comma_takes, comma_always}
 use Rattle.c_descent.proofs.Comes.{To, arrives, Goes, step, map_to, put-append, sign_goes}
@@ -49,7 +49,7 @@ module _ (limit : ℕ) {A : Type 0} {p : Parser A} {R : List Bounded → A → T
 
   comma_reads : (ts : List Bounded) (x : A) (s : List Tok) → Comma R ts x → Next s → Goes limit (after_comma p) ts s x
   unfolding after_comma
-  comma_reads _ x s (seq _ us (is_sign at) r) n = step limit (sign signs.Comma) (λ _. p) (g.sign at signs.Comma ∷ []) us
+  comma_reads _ x s (seq _ us (is_sign at) r) n = step limit (sign_token signs.Comma) (λ _. p) (g.sign at signs.Comma ∷ []) us
       (sign_goes limit signs.Comma at (toks_of us ++ s)) (reads us x s r n)
 
   after_first : (ts : List Bounded) (xs : List A) (rest : List Tok) → Many (Comma R) ts xs → Next rest → Next (toks_of ts ++ rest)

@@ -26,7 +26,7 @@ use Rattle.c_descent.specs.declared.parts.Given.{Given}
 use Rattle.c_descent.specs.ListParser.{is_left, separated}
 use Rattle.c_descent.specs.StatementParser as st
 use Rattle.c_descent.specs.ProgramParser as p
-use Rattle.c_descent.specs.ProgramParser.{heading_of, heading_at, storage_of, result_of}
+use Rattle.c_descent.specs.ProgramParser.{heading_of, heading_at, storage_of, result_kind}
 use Rattle.c_descent.proofs.Holds.{Seq, seq, Mapped, mapped, Alike, Holds, Always, Full, mono, bind, mapping, dispatch, head_kind, Nothing, nothing, giving, free, no_text, full_seq, full_mapped, full_sign, full_word, full_name, full_number, Takes, Many, none_left, one_more, IsSign, is_sign, signing, IsWord, is_word, wording, IsName, is_name, naming, IsNumber, is_number, numbering, refusing}
 use Rattle.c_descent.proofs.Lists.{listing, separating, separated_made, Comma}
 use Rattle.c_descent.proofs.Expressing.{if_sign}
@@ -212,8 +212,8 @@ module _ (limit : ℕ) where
   parameter_made _ x (seq ts _ (typed first _ t) (mapped _ (is_name at text) q)) =
       subst (λ x. IsParameter (ts ++ g.name at text ∷ []) x) (sym q) (gr.typed first at text t)
 
-  pub parameter_at : Always limit p.parameter IsParameter
-  unfolding p.parameter
+  pub parameter_at : Always limit p.one_parameter IsParameter
+  unfolding p.one_parameter
   parameter_at s = mono limit parameter_made (bind limit _ (λ u. full_mapped _ full_name) any_type (λ u. mapping limit _ (naming limit)) s)
 
   pub full_parameter : Full IsParameter
@@ -228,8 +228,8 @@ module _ (limit : ℕ) where
   none_made : (ts : List Bounded) (xs : List Parameter) → Nothing [] ts xs → AreParameters ts xs
   none_made _ _ nothing = gr.AreParameters.nothing
 
-  listed_at : Always limit p.listed AreParameters
-  unfolding p.listed p.void_list
+  listed_at : Always limit p.parameter_list AreParameters
+  unfolding p.parameter_list p.void_list
   listed_at s = if_sign limit signs.RightParenthesis _ _ s
       (λ q. mono limit none_made (giving limit [] s))
       (λ q. if_word limit words.Void _ _ s
@@ -261,7 +261,7 @@ module _ (limit : ℕ) where
   pre_private _ _ no_word = gr.IsPrivate.nothing
   pre_private _ _ (private_word at) = gr.IsPrivate.given at
 
-  result_is : (u : Bool) (first : Spot) (ts : List Bounded) → IsType first ts u → IsResult ts (result_of u)
+  result_is : (u : Bool) (first : Spot) (ts : List Bounded) → IsType first ts u → IsResult ts (result_kind u)
   result_is true first ts t = gr.IsResult.unsigned first t
   result_is false first ts t = gr.IsResult.int first t
 
@@ -318,7 +318,7 @@ module _ (limit : ℕ) where
     TypedRest : Bool → Bool → Named → List Bounded → Item → Type 0
     TypedRest b u found ts x = (pre us : List Bounded) (first : Spot) (bound : ℕ) → Pre b pre → IsType first us u → IsItem (pre ++ (us ++ (named found bound ∷ ts))) x
 
-    function_typed : (b u : Bool) (found : Named) (ts : List Bounded) (x : Item) → FunctionRest b (result_of u) found ts x → TypedRest b u found ts x
+    function_typed : (b u : Bool) (found : Named) (ts : List Bounded) (x : Item) → FunctionRest b (result_kind u) found ts x → TypedRest b u found ts x
     unfolding FunctionRest TypedRest
     function_typed b u found ts x h pre us first bound k t = h pre us bound (pre_private b pre k) (result_is u first us t)
 
@@ -329,7 +329,7 @@ module _ (limit : ℕ) where
     typed_rest_at : (b u : Bool) (found : Named) → Always limit (p.typed_rest limit levels b u found) (TypedRest b u found)
     unfolding p.typed_rest
     typed_rest_at b u found s = if_sign limit signs.LeftParenthesis _ _ s
-        (λ q. mono limit (function_typed b u found) (function_rest_at b (result_of u) found s))
+        (λ q. mono limit (function_typed b u found) (function_rest_at b (result_kind u) found s))
         (λ q. mono limit (object_typed b u found) (object_rest_at (storage_of b) u found s))
 
     full_typed_rest : (b u : Bool) (found : Named) → Full (TypedRest b u found)
@@ -339,8 +339,8 @@ module _ (limit : ℕ) where
     unfolding TypedRest Declared
     typed_item b _ x (seq us _ (typed first _ t) (seq _ ts (is_name at text) r)) pre h = r pre us first at.bound h t
 
-    typed_at : (b : Bool) → Always limit (p.typed limit levels b) (Declared b)
-    unfolding p.typed
+    typed_at : (b : Bool) → Always limit (p.typed_item limit levels b) (Declared b)
+    unfolding p.typed_item
     typed_at b s = mono limit (typed_item b) (bind limit _ (λ u. full_seq full_name (λ found. full_typed_rest b u found)) any_type
         (λ u. bind limit _ (λ found. full_typed_rest b u found) (naming limit) (λ found. typed_rest_at b u found)) s)
 

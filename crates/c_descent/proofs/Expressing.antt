@@ -19,7 +19,7 @@ use Rattle.c_descent.specs.declared.parts.Operand.{Operand}
 use Rattle.c_descent.specs.declared.parts.Operand.TheVariants as operand
 use Rattle.c_descent.specs.ListParser.{done, Parser, first_kind, is_some_sign, is_at_sign, separated}
 use Rattle.c_descent.specs.ExpressionParser as p
-use Rattle.c_descent.specs.ExpressionParser.{unary_of, operand_of, Inside, opened}
+use Rattle.c_descent.specs.ExpressionParser.{unary_sign, operand_of, Inside, opened}
 use Rattle.c_descent.proofs.Holds.{Seq, seq, Mapped, mapped, Alike, Holds, Always, Full, mono, bind, mapping, mapped_at, dispatch, head_kind, Nothing, nothing, giving, free, full_seq, full_mapped, full_sign, OpensSign, opens_sign, above_at, above_ok, opening_sign, deep_first, IsSign, is_sign, signing, IsWord, is_word, wording, IsName, is_name, naming, IsNumber, is_number, numbering, Many, some_sign, refusing}
 use Rattle.c_descent.proofs.Lists.{head_sign, Comma, separating, separated_made}
 use Rattle.c_descent.proofs.Chains.{zero_token, zero_tree, zero_unary, zero_expression, Operand as Grows, binary_at}
@@ -29,7 +29,7 @@ abbrev pub Inner : ℕ → ℕ → Inside → Type 0
 Inner limit l None = Unit {0}
 Inner limit l (Some unary) = (l < limit) × Always limit unary (Unary (suc l))
 
-pub unary_known : (o : Option Kind) (op : Sign) → unary_of o ≡ Some op → (o ≡ Some (kinds.Sign op)) × (is_unary_operator op ≡ true)
+pub unary_known : (o : Option Kind) (op : Sign) → unary_sign o ≡ Some op → (o ≡ Some (kinds.Sign op)) × (is_unary_operator op ≡ true)
 unary_known (Some (kinds.Sign x)) op e = grind (arith, common_steps)
 unary_known (Some (kinds.Word x)) op e = grind arith
 unary_known (Some (kinds.Name x)) op e = grind arith
@@ -84,8 +84,8 @@ module _ (limit l : ℕ) {unary : Parser Expr} (always : Always limit unary (Una
   no_made : (ts : List Bounded) (xs : List Expr) → Nothing [] ts xs → Inners l ts xs
   no_made _ _ nothing = no_inner
 
-  pub listing_inners : Always limit (p.listed limit unary) (Inners l)
-  unfolding p.listed
+  pub listing_inners : Always limit (p.argument_list limit unary) (Inners l)
+  unfolding p.argument_list
   listing_inners s = if_sign limit signs.RightParenthesis (λ s. done [] s) (separated (p.expression limit unary)) s
       (λ e. mono limit no_made (giving limit [] s))
       (λ e. mono limit (λ ts xs h. inners (listed_made ts xs h)) (separating limit expressing (_, _, zero_expression l) s))
@@ -200,7 +200,7 @@ module _ (limit l : ℕ) where
   after_none found _ _ nothing bound = gr.variable found.name (record { place = found.token; bound = bound })
 
   after_name_at : (inside : Inside) → Inner limit l inside → (found : Named) → Always limit (p.after_name limit inside found) (After found)
-  unfolding p.after_name p.indexed p.called
+  unfolding p.after_name p.element_expression p.call_expression
   after_name_at inside h found s = if_sign limit signs.LeftBracket _ _ s
       (λ e. mono limit (after_index found) (mapped_at limit _ (subscript_at inside h s (at_sign signs.LeftBracket s e))))
       (λ e. if_sign limit signs.LeftParenthesis _ _ s
@@ -214,8 +214,8 @@ module _ (limit l : ℕ) where
   after_full : (found : Named) → Full (After found)
   after_full found = ([], expr.Name found.name found.token, after_none found [] _ nothing)
 
-  named_at : (inside : Inside) → Inner limit l inside → Always limit (p.named limit inside) (Primary l)
-  unfolding p.named
+  named_at : (inside : Inside) → Inner limit l inside → Always limit (p.name_expression limit inside) (Primary l)
+  unfolding p.name_expression
   named_at inside h s = mono limit named_made (bind limit _ after_full (naming limit) (after_name_at inside h) s)
 
   literal_made : (ts : List Bounded) (x : Expr) → Mapped IsNumber (λ found. expr.Number found.value found.unsigned found.token) ts x → Primary l ts x
@@ -274,34 +274,34 @@ module _ (limit l : ℕ) where
     seq _ _ (opens_sign (above_at l place) (above_ok l place)) (mapped zero_tree (zero_unary (suc l)) refl),
   )
 
-  signed_at : (inside : Inside) → Inner limit l inside → (s : List Tok) (op : Sign) → unary_of (first_kind s) ≡ Some op
-      → Holds limit (p.signed inside op) (Unary l) s (p.signed inside op s)
-  unfolding p.signed Signed
+  signed_at : (inside : Inside) → Inner limit l inside → (s : List Tok) (op : Sign) → unary_sign (first_kind s) ≡ Some op
+      → Holds limit (p.signed_expression inside op) (Unary l) s (p.signed_expression inside op s)
+  unfolding p.signed_expression Signed
   signed_at inside h s op e = mono limit (signed_made op (unary_known (first_kind s) op e).1)
       (opened_at inside h _ s (kinds.Sign op) (unary_known (first_kind s) op e).0 (signed_deep op)
       (λ unary a u. bind limit _ (λ place. full_mapped _ (_, _, zero_unary (suc l))) (opening_sign limit l op a) (λ place. mapping limit _ u) s))
 
-  unary_head : (s t : List Tok) → Alike s t → unary_of (first_kind s) ≡ unary_of (first_kind t)
-  unary_head s t a = ap unary_of (head_kind s t a)
+  unary_head : (s t : List Tok) → Alike s t → unary_sign (first_kind s) ≡ unary_sign (first_kind t)
+  unary_head s t a = ap unary_sign (head_kind s t a)
 
-  unary_by : (inside : Inside) → Inner limit l inside → (s : List Tok) (o : Option Sign) → unary_of (first_kind s) ≡ o
+  unary_by : (inside : Inside) → Inner limit l inside → (s : List Tok) (o : Option Sign) → unary_sign (first_kind s) ≡ o
       → Holds limit (p.unary_by limit inside o) (Unary l) s (p.unary_by limit inside o s)
   unary_by inside h s (Some op) e = signed_at inside h s op e
   unary_by inside h s None e = mono limit (λ ts x h. primary h) (primary_at inside h s)
 
   pub unary_in_at : (inside : Inside) → Inner limit l inside → Always limit (p.unary_in limit inside) (Unary l)
   unfolding p.unary_in
-  unary_in_at inside h s = dispatch limit (λ s. unary_of (first_kind s)) (p.unary_by limit inside) unary_head s (unary_by inside h s)
+  unary_in_at inside h s = dispatch limit (λ s. unary_sign (first_kind s)) (p.unary_by limit inside) unary_head s (unary_by inside h s)
 
 -- the reader with so many levels left, where so many are open
-pub inside_at : (limit n l : ℕ) → l + n ≡ limit → Inner limit l (p.inside limit n)
-unfolding p.inside
+pub inside_at : (limit n l : ℕ) → l + n ≡ limit → Inner limit l (p.levels_inside limit n)
+unfolding p.levels_inside
 inside_at limit zero l e = tt
-inside_at limit (suc n) l e = (omega (arith, e), unary_in_at limit (suc l) (p.inside limit n) (inside_at limit n (suc l) (omega (arith, e))))
+inside_at limit (suc n) l e = (omega (arith, e), unary_in_at limit (suc l) (p.levels_inside limit n) (inside_at limit n (suc l) (omega (arith, e))))
 
-pub unary_at : (limit n l : ℕ) → l + n ≡ limit → Always limit (p.unary limit n) (Unary l)
-unfolding p.unary
-unary_at limit n l e = unary_in_at limit l (p.inside limit n) (inside_at limit n l e)
+pub unary_at : (limit n l : ℕ) → l + n ≡ limit → Always limit (p.unary_expression limit n) (Unary l)
+unfolding p.unary_expression
+unary_at limit n l e = unary_in_at limit l (p.levels_inside limit n) (inside_at limit n l e)
 
 pub expression_at : (limit n l : ℕ) → l + n ≡ limit → Always limit (p.expression_at limit n) (Expression l)
 expression_at limit n l e = expressing limit l (unary_at limit n l e)

@@ -12,7 +12,7 @@ use Rattle.c_grammar.specs.BoundedTokens as g
 use Rattle.c_grammar.specs.BoundedTokens.{Tok, Spot, Bounded, tok_of, bounded, bounded_all}
 use Rattle.c_descent.specs.declared.parts.Named.{Named}
 use Rattle.c_descent.specs.declared.parts.Numeral.{Numeral}
-use Rattle.c_descent.specs.ListParser.{Reason, expected, deep, exhausted, Outcome, done, stop, Parser, follow, ◌>>=◌, gives, refuses, first_kind, is_some_sign, is_some_word, is_at_sign, is_at_word, passed, sign, word, named, name, numeral, number}
+use Rattle.c_descent.specs.ListParser.{Reason, expected, deep, exhausted, ParseOutcome, done, stop, Parser, follow, ◌>>=◌, gives, refuses, first_kind, is_some_sign, is_some_word, is_at_sign, is_at_word, passed, sign_token, word_token, name_by, name_token, number_by, number_token}
 
 -- what tokens may be read as
 abbrev pub Rel : Type 0 → Type (0 + 1)
@@ -24,7 +24,7 @@ pub data Seq {A B : Type 0} (R : List Bounded → A → Type 0) (S : A → List 
 pub data Mapped {A B : Type 0} (R : List Bounded → A → Type 0) (f : A → B) : List Bounded → B → Type 0 where
   mapped : {ts : List Bounded} {x : B} (y : A) → R ts y → x ≡ f y → Mapped R f ts x
 
--- the same next token, or none in both
+-- one next token in both, or none
 abbrev pub Alike : List Tok → List Tok → Type 0
 Alike [] [] = Unit {0}
 Alike [] (u ∷ us) = ⊥
@@ -55,7 +55,7 @@ module _ (limit : ℕ) where
     pub opens : Opens reason more rest
     pub again : (other : List Tok) → Alike rest other → p (used ++ other) ≡ stop reason other
 
-  pub data Holds {A : Type 0} (p : Parser A) (R : List Bounded → A → Type 0) (s : List Tok) : Outcome A → Type 0 where
+  pub data Holds {A : Type 0} (p : Parser A) (R : List Bounded → A → Type 0) (s : List Tok) : ParseOutcome A → Type 0 where
     reaches : {x : A} {rest : List Tok} → Reaches p R s x rest → Holds p R s (done x rest)
     stops : {reason : Reason} {rest : List Tok} → Stops p R s reason rest → Holds p R s (stop reason rest)
 
@@ -92,14 +92,14 @@ bounded-append : (limit : ℕ) (a b : List Tok) → bounded_all limit (a ++ b) �
 bounded-append limit a b = map-append (bounded limit) a b
 
 module _ (limit : ℕ) {A : Type 0} where
-  pub mono : {p : Parser A} {R S : List Bounded → A → Type 0} {s : List Tok} {o : Outcome A}
+  pub mono : {p : Parser A} {R S : List Bounded → A → Type 0} {s : List Tok} {o : ParseOutcome A}
       → ((ts : List Bounded) (x : A) → R ts x → S ts x) → Holds limit p R s o → Holds limit p S s o
   mono f (reaches h) = reaches record { used = h.used; split = h.split; means = f _ _ h.means; again = h.again }
   mono f (stops h) = stops record { used = h.used; split = h.split; more = h.more; tree = h.tree; means = f _ _ h.means; opens = h.opens; again = h.again }
 
   -- what is read after an answer
   module _ {B : Type 0} {p : Parser A} (f : A → Parser B) {R : List Bounded → A → Type 0} {S : A → List Bounded → B → Type 0} where
-    pub then_reads : {s rest : List Tok} {y : A} {o : Outcome B} → Reaches limit p R s y rest → Holds limit (f y) (S y) rest o
+    pub then_reads : {s rest : List Tok} {y : A} {o : ParseOutcome B} → Reaches limit p R s y rest → Holds limit (f y) (S y) rest o
         → Holds limit (p >>= f) (Seq R S) s o
     then_reads {rest} h (reaches {x} {rest = left} k) = reaches record {
       used = h.used ++ k.used;
@@ -135,7 +135,7 @@ module _ (limit : ℕ) {A : Type 0} where
       again = λ other a. ap (λ o. follow o f) (h.again other a);
     }
 
-    pub bind_at : {s : List Tok} {o : Outcome A} → ((y : A) → Full (S y)) → ((y : A) → Always limit (f y) (S y)) → Holds limit p R s o
+    pub bind_at : {s : List Tok} {o : ParseOutcome A} → ((y : A) → Full (S y)) → ((y : A) → Always limit (f y) (S y)) → Holds limit p R s o
         → Holds limit (p >>= f) (Seq R S) s (follow o f)
     bind_at full k (reaches {x = y} {rest} h) = then_reads h (k y rest)
     bind_at full k (stops h) = before full h
@@ -143,8 +143,8 @@ module _ (limit : ℕ) {A : Type 0} where
     pub bind : ((y : A) → Full (S y)) → Always limit p R → ((y : A) → Always limit (f y) (S y)) → Always limit (p >>= f) (Seq R S)
     bind full h k s = bind_at full k (h s)
 
-    -- the same, where what is left is known
-    pub bind_known : (s : List Tok) (o : Outcome A) → p s ≡ o → ((y : A) → Full (S y)) → Holds limit p R s o
+    -- what is read after an answer, where what is left is known
+    pub bind_known : (s : List Tok) (o : ParseOutcome A) → p s ≡ o → ((y : A) → Full (S y)) → Holds limit p R s o
         → ((y : A) (rest : List Tok) → p s ≡ done y rest → Holds limit (f y) (S y) rest (f y rest))
         → Holds limit (p >>= f) (Seq R S) s (follow o f)
     bind_known s (done y rest) e full (reaches h) k = then_reads h (k y rest e)
@@ -152,7 +152,7 @@ module _ (limit : ℕ) {A : Type 0} where
 
   -- a function of the answer
   module _ {B : Type 0} {p : Parser A} {R : List Bounded → A → Type 0} (f : A → B) where
-    pub mapped_at : {s : List Tok} {o : Outcome A} → Holds limit p R s o
+    pub mapped_at : {s : List Tok} {o : ParseOutcome A} → Holds limit p R s o
         → Holds limit (p >>= (λ y. gives (f y))) (Mapped R f) s (follow o (λ y. gives (f y)))
     mapped_at (reaches {x = y} h) = reaches record {
       used = h.used;
@@ -174,7 +174,7 @@ module _ (limit : ℕ) {A : Type 0} where
     mapping h s = mapped_at (h s)
 
   -- another parser that gives the same everywhere
-  pub same_parser : {p q : Parser A} {R : List Bounded → A → Type 0} {s : List Tok} {o : Outcome A} → ((t : List Tok) → q t ≡ p t)
+  pub same_parser : {p q : Parser A} {R : List Bounded → A → Type 0} {s : List Tok} {o : ParseOutcome A} → ((t : List Tok) → q t ≡ p t)
       → Holds limit p R s o → Holds limit q R s o
   same_parser e (reaches h) = reaches record {
     used = h.used;
@@ -195,7 +195,7 @@ module _ (limit : ℕ) {A : Type 0} where
   -- what is read as the first token says
   module _ {K : Type 0} (key : List Tok → K) (f : K → Parser A) {R : List Bounded → A → Type 0}
       (head : (s t : List Tok) → Alike s t → key s ≡ key t) where
-    pub by_first : {s : List Tok} {o : Outcome A} → Holds limit (f (key s)) R s o → Holds limit (λ t. f (key t) t) R s o
+    pub by_first : {s : List Tok} {o : ParseOutcome A} → Holds limit (f (key s)) R s o → Holds limit (λ t. f (key t) t) R s o
     by_first {s} (reaches {rest} h) = reaches record {
       used = h.used;
       split = h.split;
@@ -294,14 +294,14 @@ spot limit t = record { place = t.place; bound = limit }
 abbrev pub free : Spot
 free = record { place = 0; bound = 0 }
 
-pub signing : (limit : ℕ) (x : Sign) → Always limit (sign x) (IsSign x)
-unfolding sign is_at_sign
+pub signing : (limit : ℕ) (x : Sign) → Always limit (sign_token x) (IsSign x)
+unfolding sign_token is_at_sign
 signing limit x = passed_at limit (is_some_sign x)
     (λ t e. subst (λ k. IsSign x (record { spot = spot limit t; kind = k } ∷ []) t.place) (sym (some_sign x t.kind e)) (is_sign (spot limit t)))
     (_, _, is_sign free)
 
-pub wording : (limit : ℕ) (x : Word) → Always limit (word x) (IsWord x)
-unfolding word is_at_word
+pub wording : (limit : ℕ) (x : Word) → Always limit (word_token x) (IsWord x)
+unfolding word_token is_at_word
 wording limit x = passed_at limit (is_some_word x)
     (λ t e. subst (λ k. IsWord x (record { spot = spot limit t; kind = k } ∷ []) t.place) (sym (some_word x t.kind e)) (is_word (spot limit t)))
     (_, _, is_word free)
@@ -337,15 +337,15 @@ module _ (limit : ℕ) {A : Type 0} (from : Option Kind → Parser A) {R : List 
   kind_at [] = subst (λ o. Holds limit of_kind R [] o) (sym nil) (unkind [] unkind_nil)
   kind_at (t ∷ ts) = kind_case t ts (each t)
 
-name_each : (limit : ℕ) (t : Tok) (k : Kind) → t.kind ≡ k → ((ts : List Tok) → named (Some k) (t ∷ ts) ≡ stop expected (t ∷ ts))
-    ⊎ ((x : Named) × IsName (record { spot = spot limit t; kind = k } ∷ []) x × ((ts : List Tok) → named (Some k) (t ∷ ts) ≡ done x ts))
+name_each : (limit : ℕ) (t : Tok) (k : Kind) → t.kind ≡ k → ((ts : List Tok) → name_by (Some k) (t ∷ ts) ≡ stop expected (t ∷ ts))
+    ⊎ ((x : Named) × IsName (record { spot = spot limit t; kind = k } ∷ []) x × ((ts : List Tok) → name_by (Some k) (t ∷ ts) ≡ done x ts))
 name_each limit t (kinds.Name x) e = inr (_, is_name (spot limit t) x, λ ts. refl)
 name_each limit t (kinds.Number x u) e = inl (λ ts. refl)
 name_each limit t (kinds.Word x) e = inl (λ ts. refl)
 name_each limit t (kinds.Sign x) e = inl (λ ts. refl)
 
-number_each : (limit : ℕ) (t : Tok) (k : Kind) → t.kind ≡ k → ((ts : List Tok) → numeral (Some k) (t ∷ ts) ≡ stop expected (t ∷ ts))
-    ⊎ ((x : Numeral) × IsNumber (record { spot = spot limit t; kind = k } ∷ []) x × ((ts : List Tok) → numeral (Some k) (t ∷ ts) ≡ done x ts))
+number_each : (limit : ℕ) (t : Tok) (k : Kind) → t.kind ≡ k → ((ts : List Tok) → number_by (Some k) (t ∷ ts) ≡ stop expected (t ∷ ts))
+    ⊎ ((x : Numeral) × IsNumber (record { spot = spot limit t; kind = k } ∷ []) x × ((ts : List Tok) → number_by (Some k) (t ∷ ts) ≡ done x ts))
 number_each limit t (kinds.Number x u) e = inr (_, is_number (spot limit t) x u, λ ts. refl)
 number_each limit t (kinds.Name x) e = inl (λ ts. refl)
 number_each limit t (kinds.Word x) e = inl (λ ts. refl)
@@ -354,13 +354,13 @@ number_each limit t (kinds.Sign x) e = inl (λ ts. refl)
 abbrev pub no_text : List ℕ
 no_text = []
 
-pub naming : (limit : ℕ) → Always limit name IsName
-unfolding name
-naming limit = kind_at limit named refl (_, _, is_name free no_text) (λ t. name_each limit t t.kind refl)
+pub naming : (limit : ℕ) → Always limit name_token IsName
+unfolding name_token
+naming limit = kind_at limit name_by refl (_, _, is_name free no_text) (λ t. name_each limit t t.kind refl)
 
-pub numbering : (limit : ℕ) → Always limit number IsNumber
-unfolding number
-numbering limit = kind_at limit numeral refl (_, _, is_number free 0 false) (λ t. number_each limit t t.kind refl)
+pub numbering : (limit : ℕ) → Always limit number_token IsNumber
+unfolding number_token
+numbering limit = kind_at limit number_by refl (_, _, is_number free 0 false) (λ t. number_each limit t t.kind refl)
 
 pub full_sign : (x : Sign) → Full (IsSign x)
 full_sign x = (_, _, is_sign free)
@@ -394,16 +394,16 @@ shorter limit [] rest s e h = absurd (omega (arith, h))
 shorter limit (t ∷ used) rest s e h = rw e (rw (length-append used rest) (omega arith))
 
 module _ (limit : ℕ) {A : Type 0} {p : Parser A} {R : List Bounded → A → Type 0} (takes : Takes R) where
-  pub strict_of : (s : List Tok) (o : Outcome A) → Holds limit p R s o → (x : A) (rest : List Tok) → o ≡ done x rest → length rest < length s
+  pub strict_of : (s : List Tok) (o : ParseOutcome A) → Holds limit p R s o → (x : A) (rest : List Tok) → o ≡ done x rest → length rest < length s
   strict_of s (done y left) (reaches h) x rest e =
       subst (λ r. length r < length s) (ap (rest_of left) e) (shorter limit h.used left s h.split (takes _ _ h.means))
     where
-      rest_of : List Tok → Outcome A → List Tok
+      rest_of : List Tok → ParseOutcome A → List Tok
       rest_of d (done z r) = r
       rest_of d (stop z r) = d
   strict_of s (stop reason left) (stops h) x rest e = absurd (not_done e)
     where
-      is_done : Outcome A → Bool
+      is_done : ParseOutcome A → Bool
       is_done (done z r) = true
       is_done (stop z r) = false
 
@@ -433,28 +433,28 @@ above_at l place = record { place = place; bound = suc l }
 pub above_ok : (l place : ℕ) → l < (above_at l place).bound
 above_ok l place = omega arith
 
-pub opening_sign : (limit l : ℕ) (x : Sign) → l < limit → Always limit (sign x) (OpensSign l x)
-unfolding sign is_at_sign
+pub opening_sign : (limit l : ℕ) (x : Sign) → l < limit → Always limit (sign_token x) (OpensSign l x)
+unfolding sign_token is_at_sign
 opening_sign limit l x h = passed_at limit (is_some_sign x)
     (λ t e. subst (λ k. OpensSign l x (record { spot = spot limit t; kind = k } ∷ []) t.place) (sym (some_sign x t.kind e)) (opens_sign (spot limit t) h))
     (_, _, opens_sign (above l) (above_ok l 0))
 
-pub opening_word : (limit l : ℕ) (x : Word) → l < limit → Always limit (word x) (OpensWord l x)
-unfolding word is_at_word
+pub opening_word : (limit l : ℕ) (x : Word) → l < limit → Always limit (word_token x) (OpensWord l x)
+unfolding word_token is_at_word
 opening_word limit l x h = passed_at limit (is_some_word x)
     (λ t e. subst (λ k. OpensWord l x (record { spot = spot limit t; kind = k } ∷ []) t.place) (sym (some_word x t.kind e)) (opens_word (spot limit t) h))
     (_, _, opens_word (above l) (above_ok l 0))
 
-opens_each : (limit l : ℕ) → l < limit → (t : Tok) (k : Kind) → t.kind ≡ k → ((ts : List Tok) → named (Some k) (t ∷ ts) ≡ stop expected (t ∷ ts))
-    ⊎ ((x : Named) × OpensName l (record { spot = spot limit t; kind = k } ∷ []) x × ((ts : List Tok) → named (Some k) (t ∷ ts) ≡ done x ts))
+opens_each : (limit l : ℕ) → l < limit → (t : Tok) (k : Kind) → t.kind ≡ k → ((ts : List Tok) → name_by (Some k) (t ∷ ts) ≡ stop expected (t ∷ ts))
+    ⊎ ((x : Named) × OpensName l (record { spot = spot limit t; kind = k } ∷ []) x × ((ts : List Tok) → name_by (Some k) (t ∷ ts) ≡ done x ts))
 opens_each limit l h t (kinds.Name x) e = inr (_, opens_name (spot limit t) x h, λ ts. refl)
 opens_each limit l h t (kinds.Number x u) e = inl (λ ts. refl)
 opens_each limit l h t (kinds.Word x) e = inl (λ ts. refl)
 opens_each limit l h t (kinds.Sign x) e = inl (λ ts. refl)
 
-pub opening_name : (limit l : ℕ) → l < limit → Always limit name (OpensName l)
-unfolding name
-opening_name limit l h = kind_at limit named refl (_, _, opens_name (above l) no_text (above_ok l 0)) (λ t. opens_each limit l h t t.kind refl)
+pub opening_name : (limit l : ℕ) → l < limit → Always limit name_token (OpensName l)
+unfolding name_token
+opening_name limit l h = kind_at limit name_by refl (_, _, opens_name (above l) no_text (above_ok l 0)) (λ t. opens_each limit l h t t.kind refl)
 
 -- where the next token would open one too many
 module _ (limit : ℕ) {A : Type 0} {R : List Bounded → A → Type 0} where

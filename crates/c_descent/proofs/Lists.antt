@@ -5,7 +5,7 @@ use Rattle.c_token.specs.declared.signs.Sign.TheVariants as signs
 use Rattle.c_token.specs.declared.words.Word.{Word}
 use Rattle.c_grammar.specs.BoundedTokens as g
 use Rattle.c_grammar.specs.BoundedTokens.{Tok, Spot, Bounded, tok_of, bounded, bounded_all}
-use Rattle.c_descent.specs.ListParser.{Outcome, done, stop, Parser, follow, ◌>>=◌, gives, is_some_sign, is_some_word, is_at_sign, is_at_word, prepend, many, all, after_comma, separated}
+use Rattle.c_descent.specs.ListParser.{ParseOutcome, done, stop, Parser, follow, ◌>>=◌, gives, is_some_sign, is_some_word, is_at_sign, is_at_word, prepend, many, all, after_comma, separated}
 use Rattle.c_descent.proofs.Holds.{Seq, seq, Mapped, mapped, Alike, Holds, Always, Full, mono, bind, bind_known, mapping, mapped_at, same_parser, dispatch, head_kind, Nothing, nothing, giving, IsSign, is_sign, signing, Many, none_left, one_more, Takes, strict}
 
 pub head_sign : (x : Sign) (s t : List Tok) → Alike s t → is_at_sign x s ≡ is_at_sign x t
@@ -37,7 +37,7 @@ module _ (limit : ℕ) {A : Type 0} (follows : List Tok → Bool) {p : Parser A}
   Agree : ℕ → ℕ → Type 0
   Agree n m = (left : List Tok) → length left < n → length left < m → many n follows p left ≡ many m follows p left
 
-  rests : (n m : ℕ) (s : List Tok) → length s < suc n → length s < suc m → Agree n m → (o : Outcome A) → p s ≡ o
+  rests : (n m : ℕ) (s : List Tok) → length s < suc n → length s < suc m → Agree n m → (o : ParseOutcome A) → p s ≡ o
       → follow o (with_rest n) ≡ follow o (with_rest m)
   unfolding with_rest Agree
   rests n m s a b k (done x left) e = ap (prepend (x ∷ []))
@@ -60,11 +60,11 @@ module _ (limit : ℕ) {A : Type 0} (follows : List Tok → Bool) {p : Parser A}
   unfoldable pub after_one : A → Parser (List A)
   after_one x left = follow (all follows p left) (λ xs. gives (x ∷ xs))
 
-  prepended : (x : A) (o : Outcome (List A)) → prepend (x ∷ []) o ≡ follow o (λ xs. gives (x ∷ xs))
+  prepended : (x : A) (o : ParseOutcome (List A)) → prepend (x ∷ []) o ≡ follow o (λ xs. gives (x ∷ xs))
   prepended x (done xs left) = refl
   prepended x (stop reason left) = refl
 
-  all_rest : (s : List Tok) (o : Outcome A) → p s ≡ o → follow o (with_rest (length s)) ≡ follow o after_one
+  all_rest : (s : List Tok) (o : ParseOutcome A) → p s ≡ o → follow o (with_rest (length s)) ≡ follow o after_one
   unfolding with_rest after_one all Agree
   all_rest s (done x left) e = ap (prepend (x ∷ [])) (enough (length s) (suc (length left)) left (strict limit takes always s x left e) (omega arith))
       ∙ prepended x (many (suc (length left)) follows p left)
@@ -80,18 +80,18 @@ module _ (limit : ℕ) {A : Type 0} (follows : List Tok → Bool) {p : Parser A}
   all_turn s = many_turn (length s) s ∙ all_turned s (follows s)
 
   -- the relation of a list
-  Behind : A → List Bounded → List A → Type 0
-  Behind x = Mapped (Many R) (λ xs. x ∷ xs)
+  Onward : A → List Bounded → List A → Type 0
+  Onward x = Mapped (Many R) (λ xs. x ∷ xs)
 
-  after_name_full : (x : A) → Full (Behind x)
-  unfolding Behind
-  after_name_full x = ([], x ∷ [], mapped [] none_left refl)
+  onward_full : (x : A) → Full (Onward x)
+  unfolding Onward
+  onward_full x = ([], x ∷ [], mapped [] none_left refl)
 
-  put_before : {x : A} {zs : List A} (ts us : List Bounded) → R ts x → Behind x us zs → Many R (ts ++ us) zs
-  unfolding Behind
+  put_before : {x : A} {zs : List A} (ts us : List Bounded) → R ts x → Onward x us zs → Many R (ts ++ us) zs
+  unfolding Onward
   put_before {x} ts us r (mapped xs m e) = subst (λ zs. Many R (ts ++ us) zs) (sym e) (one_more ts us r m)
 
-  joined : (ts : List Bounded) (xs : List A) → Seq R Behind ts xs → Many R ts xs
+  joined : (ts : List Bounded) (xs : List A) → Seq R Onward ts xs → Many R ts xs
   joined _ _ (seq ts us r b) = put_before ts us r b
 
   empty : (ts : List Bounded) (xs : List A) → Nothing [] ts xs → Many R ts xs
@@ -101,13 +101,13 @@ module _ (limit : ℕ) {A : Type 0} (follows : List Tok → Bool) {p : Parser A}
   Upto n = (s : List Tok) → length s < n → Holds limit (all follows p) (Many R) s (all follows p s)
 
   known : (n : ℕ) → Upto n → (s : List Tok) → length s < suc n → (x : A) (rest : List Tok) → p s ≡ done x rest
-      → Holds limit (after_one x) (Behind x) rest (after_one x rest)
-  unfolding after_one Behind Upto
+      → Holds limit (after_one x) (Onward x) rest (after_one x rest)
+  unfolding after_one Onward Upto
   known n k s l x rest e = mapped_at limit (λ xs. x ∷ xs) (k rest (omega (arith, strict limit takes always s x rest e, l)))
 
   each : (n : ℕ) → Upto n → (s : List Tok) → length s < suc n → (b : Bool) → Holds limit (turn b after_one) (Many R) s (turn b after_one s)
   unfolding turn
-  each n k s l true = mono limit joined (bind_known limit after_one s (p s) refl after_name_full (always s) (known n k s l))
+  each n k s l true = mono limit joined (bind_known limit after_one s (p s) refl onward_full (always s) (known n k s l))
   each n k s l false = mono limit empty (giving limit [] s)
 
   listing_upto : (n : ℕ) → Upto n

@@ -14,10 +14,10 @@ use Rattle.c_grammar.specs.StatementGrammar.{IsType, Local, Simple, Maybe, State
 use Rattle.c_descent.specs.declared.parts.Named.{Named}
 use Rattle.c_descent.specs.declared.parts.Plain.{Plain}
 use Rattle.c_descent.specs.declared.parts.Plain.TheVariants as plain
-use Rattle.c_descent.specs.ListParser.{Parser, ◌>>=◌, gives, is_some_word, is_at_sign, is_at_word, word}
-use Rattle.c_descent.specs.ExpressionParser.{inside}
+use Rattle.c_descent.specs.ListParser.{Parser, ◌>>=◌, gives, is_some_word, is_at_sign, is_at_word, word_token}
+use Rattle.c_descent.specs.ExpressionParser.{levels_inside}
 use Rattle.c_descent.specs.StatementParser as p
-use Rattle.c_descent.specs.StatementParser.{start_of, start_at, plain_of, plain_at}
+use Rattle.c_descent.specs.StatementParser.{statement_start, start_at, plain_of, plain_at}
 use Rattle.c_descent.proofs.Holds.{Seq, seq, Mapped, mapped, Alike, Holds, Always, Full, mono, bind, bind_at, mapping, mapped_at, dispatch, head_kind, Nothing, nothing, giving, free, full_seq, full_mapped, full_sign, full_name, OpensSign, opens_sign, OpensWord, opens_word, OpensName, opens_name, above, above_ok, opening_sign, opening_word, opening_name, IsSign, is_sign, signing, IsWord, is_word, wording, IsName, is_name, naming, some_word, passed_at, refusing}
 use Rattle.c_descent.proofs.Lists.{head_sign, head_word}
 use Rattle.c_descent.proofs.Chains.{zero_expression}
@@ -49,8 +49,8 @@ pub data OptInt : List Bounded → Bool → Type 0 where
   with_int : (at : Spot) → OptInt (g.word at words.Int ∷ []) true
 
 module _ (limit : ℕ) (P : Spot → Type 0) (holds : (place : ℕ) → P (record { place = place; bound = limit })) (spot : Spot) (some : P spot) where
-  on_wording : (x : Word) → Always limit (word x) (OnWord P x)
-  unfolding word is_at_word
+  on_wording : (x : Word) → Always limit (word_token x) (OnWord P x)
+  unfolding word_token is_at_word
   on_wording x = passed_at limit (is_some_word x)
       (λ t e. subst (λ k. OnWord P x (record { spot = record { place = t.place; bound = limit }; kind = k } ∷ []) t.place) (sym (some_word x t.kind e))
       (on_word (record { place = t.place; bound = limit }) (holds t.place)))
@@ -74,7 +74,7 @@ module _ (limit : ℕ) (P : Spot → Type 0) (holds : (place : ℕ) → P (recor
 
   optional_int_at : Always limit p.optional_int OptInt
   unfolding p.optional_int
-  optional_int_at s = if_word limit words.Int (word words.Int >>= (λ _. gives true)) (gives true) s
+  optional_int_at s = if_word limit words.Int (word_token words.Int >>= (λ _. gives true)) (gives true) s
       (λ e. mono limit opt_made (mapping limit (λ _. true) (wording limit words.Int) s))
       (λ e. mono limit opt_none (giving limit true s))
 
@@ -132,8 +132,8 @@ module _ (limit n l : ℕ) (e : l + n ≡ limit) where
   condition_made _ x (seq _ _ (is_sign left) (seq ts _ h (mapped _ (is_sign right) q))) =
       subst (λ x. Condition l (g.sign left signs.LeftParenthesis ∷ ts ++ g.sign right signs.RightParenthesis ∷ []) x) (sym q) (condition left right h)
 
-  pub condition_at : Always limit (p.condition limit n) (Condition l)
-  unfolding p.condition
+  pub condition_at : Always limit (p.parenthesised_test limit n) (Condition l)
+  unfolding p.parenthesised_test
   condition_at s = mono limit condition_made (bind limit _ (λ _. full_seq full_expression (λ _. full_mapped _ (full_sign signs.RightParenthesis)))
       (signing limit signs.LeftParenthesis)
       (λ _. bind limit _ (λ _. full_mapped _ (full_sign signs.RightParenthesis)) (expression_at limit n l e)
@@ -184,8 +184,8 @@ module _ (limit n l : ℕ) (e : suc l + n ≡ limit) where
   Assigned : Named → Option Expr → List Bounded → Stmt → Type 0
   Assigned found index = Seq (IsSign signs.Assign) (λ _. Mapped (Expression (suc l)) (λ value. stmt.Assign found.name index value found.token))
 
-  assigned_at : (found : Named) (index : Option Expr) → Always limit (p.assigned limit n found index) (Assigned found index)
-  unfolding p.assigned Assigned
+  assigned_at : (found : Named) (index : Option Expr) → Always limit (p.assignment_rest limit n found index) (Assigned found index)
+  unfolding p.assignment_rest Assigned
   assigned_at found index = bind limit _ (λ _. full_mapped _ (full_expression limit n (suc l) e)) (signing limit signs.Assign)
       (λ _. mapping limit _ (expression_at limit n (suc l) e))
 
@@ -213,16 +213,16 @@ module _ (limit n l : ℕ) (e : suc l + n ≡ limit) where
   call_made found ts x (mapped trees h q) bound a =
       subst (λ x. Simple l (g.name (record { place = found.token; bound = bound }) found.name ∷ ts) x) (sym q) (gr.call found.name (record { place = found.token; bound = bound }) a h)
 
-  inner : Inner limit (suc l) (inside limit n)
+  inner : Inner limit (suc l) (levels_inside limit n)
   inner = inside_at limit n (suc l) e
 
-  after_name_holds : (found : Named) → Always limit (p.after_name limit n found) (After found)
-  unfolding p.after_name p.element_assigned p.call
+  after_name_holds : (found : Named) → Always limit (p.after_statement_name limit n found) (After found)
+  unfolding p.after_statement_name p.element_assigned p.call_statement
   after_name_holds found s = if_sign limit signs.LeftBracket _ _ s
       (λ q. mono limit (element_made found) (bind_at limit _ (λ at. full_assigned found (Some at.index)) (λ at. assigned_at found (Some at.index))
-      (subscript_at limit (suc l) (inside limit n) inner s (at_sign signs.LeftBracket s q))))
+      (subscript_at limit (suc l) (levels_inside limit n) inner s (at_sign signs.LeftBracket s q))))
       (λ q. if_sign limit signs.LeftParenthesis _ _ s
-      (λ q. mono limit (call_made found) (mapped_at limit _ (arguments_at limit (suc l) (inside limit n) inner s (at_sign signs.LeftParenthesis s q))))
+      (λ q. mono limit (call_made found) (mapped_at limit _ (arguments_at limit (suc l) (levels_inside limit n) inner s (at_sign signs.LeftParenthesis s q))))
       (λ q. mono limit (assign_made found) (assigned_at found None s)))
 
   full_after : (found : Named) → Full (After found)
@@ -233,8 +233,8 @@ module _ (limit n l : ℕ) (e : suc l + n ≡ limit) where
   unfolding After
   named_made _ x (seq _ us (opens_name at text h) k) = k at.bound h
 
-  named_at : Always limit (p.named limit n) (Simple l)
-  unfolding p.named
+  named_at : Always limit (p.name_statement limit n) (Simple l)
+  unfolding p.name_statement
   named_at s = mono limit named_made (bind limit _ full_after (opening_name limit l below) after_name_holds s)
 
   release_made : (ts : List Bounded) (x : Stmt) → Seq (OpensWord l words.Release) (λ place. Mapped (Condition (suc l)) (λ value. stmt.Release value place)) ts x → Simple l ts x

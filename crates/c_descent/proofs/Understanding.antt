@@ -18,11 +18,11 @@ use Rattle.c_descent.specs.declared.parts.Start.{Start}
 use Rattle.c_descent.specs.declared.parts.Start.TheVariants as start
 use Rattle.c_descent.specs.declared.parts.Plain.{Plain}
 use Rattle.c_descent.specs.declared.parts.Plain.TheVariants as plain
-use Rattle.c_descent.specs.ListParser.{expected, deep, Outcome, done, stop, Parser, follow, ◌>>=◌, gives, first_kind, is_some_sign, is_some_word, is_at_sign, is_at_word, sign, word, name, level}
-use Rattle.c_descent.specs.ExpressionParser.{inside, subscript, arguments}
+use Rattle.c_descent.specs.ListParser.{expected, deep, ParseOutcome, done, stop, Parser, follow, ◌>>=◌, gives, first_kind, is_some_sign, is_some_word, is_at_sign, is_at_word, sign_token, word_token, name_token, level}
+use Rattle.c_descent.specs.ExpressionParser.{levels_inside, subscript, arguments}
 use Rattle.c_descent.specs.ExpressionParser as ex
 use Rattle.c_descent.specs.StatementParser as p
-use Rattle.c_descent.specs.StatementParser.{start_of, start_at, plain_of, plain_at, begins_simple, begins_statement}
+use Rattle.c_descent.specs.StatementParser.{statement_start, start_at, plain_of, plain_at, begins_simple, begins_statement}
 use Rattle.c_descent.proofs.Holds.{Always, Many, none_left, one_more}
 use Rattle.c_descent.proofs.ComesLists.{all_reads}
 use Rattle.c_descent.proofs.Bodies.{St, Entry, local_entry, statement_entry, entry_takes, entry_at, statement_at}
@@ -59,11 +59,11 @@ module _ (limit : ℕ) where
   pub type_reads : (first at : Spot) (text : List ℕ) (ts : List Bounded) (u : Bool) (s : List Tok) → IsType first ts u → Goes limit p.type_name ts (tok_of (g.name at text) ∷ s) u
   unfolding p.type_name p.int_type p.unsigned_type p.optional_int is_at_word
   type_reads _ at text _ _ s (gr.int first) = map_to limit (λ _. false) (word_goes limit words.Int first _)
-  type_reads _ at text _ _ s (gr.unsigned first) = step limit (word words.Unsigned) (λ _. p.optional_int) (g.word first words.Unsigned ∷ []) [] (word_goes limit words.Unsigned first _) arrives
-  type_reads _ at text _ _ s (gr.unsigned_int first then) = step limit (word words.Unsigned) (λ _. p.optional_int) (g.word first words.Unsigned ∷ []) (g.word then words.Int ∷ []) (word_goes limit words.Unsigned first _)
+  type_reads _ at text _ _ s (gr.unsigned first) = step limit (word_token words.Unsigned) (λ _. p.optional_int) (g.word first words.Unsigned ∷ []) [] (word_goes limit words.Unsigned first _) arrives
+  type_reads _ at text _ _ s (gr.unsigned_int first then) = step limit (word_token words.Unsigned) (λ _. p.optional_int) (g.word first words.Unsigned ∷ []) (g.word then words.Int ∷ []) (word_goes limit words.Unsigned first _)
       (map_to limit (λ _. true) (word_goes limit words.Int then _))
 
-  type_deep : {A : Type 0} (l : ℕ) (first : Spot) (ts us : List Bounded) (u : Bool) (rest : List Tok) (end : Outcome A) → limit ≤ l → l < first.bound → IsType first ts u
+  type_deep : {A : Type 0} (l : ℕ) (first : Spot) (ts us : List Bounded) (u : Bool) (rest : List Tok) (end : ParseOutcome A) → limit ≤ l → l < first.bound → IsType first ts u
       → To limit (ts ++ us) rest end (stop deep (toks_of (ts ++ us) ++ rest))
   type_deep l _ _ us _ rest end a b (gr.int first) = late [] (g.word first words.Int) us refl (omega (arith, a, b))
   type_deep l _ _ us _ rest end a b (gr.unsigned first) = late [] (g.word first words.Unsigned) us refl (omega (arith, a, b))
@@ -74,9 +74,9 @@ module _ (limit : ℕ) where
     expression_goes = whole_reads limit n l e
 
     condition_goes : (ts us : List Bounded) (x : Expr) (left right : Spot) (rest : List Tok) → Expression l ts x
-        → Goes limit (p.condition limit n) (g.sign left signs.LeftParenthesis ∷ ts ++ g.sign right signs.RightParenthesis ∷ []) rest x
-    unfolding p.condition
-    condition_goes ts us x left right rest h = step limit (sign signs.LeftParenthesis) _ (g.sign left signs.LeftParenthesis ∷ []) (ts ++ g.sign right signs.RightParenthesis ∷ []) (sign_goes limit signs.LeftParenthesis left _)
+        → Goes limit (p.parenthesised_test limit n) (g.sign left signs.LeftParenthesis ∷ ts ++ g.sign right signs.RightParenthesis ∷ []) rest x
+    unfolding p.parenthesised_test
+    condition_goes ts us x left right rest h = step limit (sign_token signs.LeftParenthesis) _ (g.sign left signs.LeftParenthesis ∷ []) (ts ++ g.sign right signs.RightParenthesis ∷ []) (sign_goes limit signs.LeftParenthesis left _)
         (step limit (ex.expression_at limit n) _ ts (g.sign right signs.RightParenthesis ∷ []) (expression_goes ts x _ h (ends_right right rest))
         (map_to limit (λ _. x) (sign_goes limit signs.RightParenthesis right rest)))
 
@@ -93,17 +93,17 @@ module _ (limit : ℕ) where
     local_inside_goes : (ts : List Bounded) (x : Stmt) (end : Spot) (s : List Tok) → Local l ts x → Goes limit (p.local_inside limit n) ts (tok_of (g.sign end signs.Semicolon) ∷ s) x
     unfolding p.local_inside p.optional_value is_at_sign
     local_inside_goes _ _ end s (gr.plain {ts} {is_unsigned} first at text h t) = step limit p.type_name _ ts (g.name at text ∷ []) (type_reads first at text ts is_unsigned _ t)
-        (step limit name _ (g.name at text ∷ []) [] (name_goes limit text at _) (map_to limit (λ value. stmt.Local is_unsigned text value at.place) arrives))
+        (step limit name_token _ (g.name at text ∷ []) [] (name_goes limit text at _) (map_to limit (λ value. stmt.Local is_unsigned text value at.place) arrives))
     local_inside_goes _ _ end s (gr.valued {ts} {us} {is_unsigned} {x} first at equals text h t v) = step limit p.type_name _ ts (g.name at text ∷ g.sign equals signs.Assign ∷ us) (type_reads first at text ts is_unsigned _ t)
-        (step limit name _ (g.name at text ∷ []) (g.sign equals signs.Assign ∷ us) (name_goes limit text at _)
+        (step limit name_token _ (g.name at text ∷ []) (g.sign equals signs.Assign ∷ us) (name_goes limit text at _)
         (map_to limit (λ value. stmt.Local is_unsigned text value at.place)
-        (step limit (sign signs.Assign) _ (g.sign equals signs.Assign ∷ []) us (sign_goes limit signs.Assign equals _)
+        (step limit (sign_token signs.Assign) _ (g.sign equals signs.Assign ∷ []) us (sign_goes limit signs.Assign equals _)
         (map_to limit Some (expression_goes n (suc l) e us x _ v (ends_semicolon end s))))))
 
     assigned_goes : (text : List ℕ) (at equals : Spot) (index : Option Expr) (ts : List Bounded) (x : Expr) (rest : List Tok) → Expression (suc l) ts x → Ends 10 rest
-        → Goes limit (p.assigned limit n (record { name = text; token = at.place }) index) (g.sign equals signs.Assign ∷ ts) rest (stmt.Assign text index x at.place)
-    unfolding p.assigned
-    assigned_goes text at equals index ts x rest h k = step limit (sign signs.Assign) _ (g.sign equals signs.Assign ∷ []) ts (sign_goes limit signs.Assign equals _)
+        → Goes limit (p.assignment_rest limit n (record { name = text; token = at.place }) index) (g.sign equals signs.Assign ∷ ts) rest (stmt.Assign text index x at.place)
+    unfolding p.assignment_rest
+    assigned_goes text at equals index ts x rest h k = step limit (sign_token signs.Assign) _ (g.sign equals signs.Assign ∷ []) ts (sign_goes limit signs.Assign equals _)
         (map_to limit (λ value. stmt.Assign text index value at.place) (expression_goes n (suc l) e ts x rest h k))
 
     element_goes : (text : List ℕ) (at left right equals : Spot) (ts us : List Bounded) (x y : Expr) (rest : List Tok) → suc l < left.bound → Expression (suc (suc l)) ts x → Expression (suc l) us y → Ends 10 rest
@@ -112,40 +112,40 @@ module _ (limit : ℕ) where
     element_goes text at left right equals ts us x y rest h v w k =
         subst (λ ts. Goes limit (p.element_assigned limit n (record { name = text; token = at.place })) (g.sign left signs.LeftBracket ∷ ts) rest (stmt.Assign text (Some x) y at.place))
         (append_assoc ts (g.sign right signs.RightBracket ∷ []) (g.sign equals signs.Assign ∷ us))
-        (step limit (subscript limit (inside limit n)) (λ found. p.assigned limit n (record { name = text; token = at.place }) (Some found.index))
+        (step limit (subscript limit (levels_inside limit n)) (λ found. p.assignment_rest limit n (record { name = text; token = at.place }) (Some found.index))
         (g.sign left signs.LeftBracket ∷ ts ++ g.sign right signs.RightBracket ∷ []) (g.sign equals signs.Assign ∷ us)
-        (subscript_reads limit (suc l) (inside limit n) (inside_at limit n (suc l) e) (inside_reads limit n (suc l) e) ts [] x left right _ h v)
+        (subscript_reads limit (suc l) (levels_inside limit n) (inside_at limit n (suc l) e) (inside_reads limit n (suc l) e) ts [] x left right _ h v)
         (assigned_goes text at equals (Some x) us y rest w k))
 
-    named_goes : (ts : List Bounded) (x : Stmt) (rest : List Tok) → Simple l ts x → (is_name : plain_of (first_kind (toks_of ts ++ rest)) ≡ plain.Named) → Ends 10 rest → Goes limit (p.named limit n) ts rest x
-    unfolding p.named p.after_name p.call is_at_sign is_named
-    named_goes _ _ rest (gr.assign {ts} {x} text at equals h v) q k = step limit name _ (g.name at text ∷ []) (g.sign equals signs.Assign ∷ ts) (name_goes limit text at _)
+    named_goes : (ts : List Bounded) (x : Stmt) (rest : List Tok) → Simple l ts x → (is_name : plain_of (first_kind (toks_of ts ++ rest)) ≡ plain.Named) → Ends 10 rest → Goes limit (p.name_statement limit n) ts rest x
+    unfolding p.name_statement p.after_statement_name p.call_statement is_at_sign is_named
+    named_goes _ _ rest (gr.assign {ts} {x} text at equals h v) q k = step limit name_token _ (g.name at text ∷ []) (g.sign equals signs.Assign ∷ ts) (name_goes limit text at _)
         (assigned_goes text at equals None ts x rest v k)
     named_goes _ _ rest (gr.assign_at {ts} {us} {x} {y} text at left right equals h i v w) q k =
-        step limit name _ (g.name at text ∷ []) (g.sign left signs.LeftBracket ∷ ts ++ g.sign right signs.RightBracket ∷ g.sign equals signs.Assign ∷ us) (name_goes limit text at _)
+        step limit name_token _ (g.name at text ∷ []) (g.sign left signs.LeftBracket ∷ ts ++ g.sign right signs.RightBracket ∷ g.sign equals signs.Assign ∷ us) (name_goes limit text at _)
         (element_goes text at left right equals ts us x y rest i v w k)
-    named_goes _ _ rest (gr.call {ts} {xs} text at h a) q k = step limit name _ (g.name at text ∷ []) ts (name_goes limit text at _)
+    named_goes _ _ rest (gr.call {ts} {xs} text at h a) q k = step limit name_token _ (g.name at text ∷ []) ts (name_goes limit text at _)
         (subst (λ b. To limit ts rest (done (stmt.Call text xs at.place) rest) (cond b (p.element_assigned limit n (record { name = text; token = at.place }) (toks_of ts ++ rest))
-        (cond (is_at_sign signs.LeftParenthesis (toks_of ts ++ rest)) (p.call limit n (record { name = text; token = at.place }) (toks_of ts ++ rest)) (p.assigned limit n (record { name = text; token = at.place }) None (toks_of ts ++ rest)))))
+        (cond (is_at_sign signs.LeftParenthesis (toks_of ts ++ rest)) (p.call_statement limit n (record { name = text; token = at.place }) (toks_of ts ++ rest)) (p.assignment_rest limit n (record { name = text; token = at.place }) None (toks_of ts ++ rest)))))
         (sym (argument_bracket (suc l) ts xs rest a))
-        (subst (λ b. To limit ts rest (done (stmt.Call text xs at.place) rest) (cond b (p.call limit n (record { name = text; token = at.place }) (toks_of ts ++ rest)) (p.assigned limit n (record { name = text; token = at.place }) None (toks_of ts ++ rest))))
+        (subst (λ b. To limit ts rest (done (stmt.Call text xs at.place) rest) (cond b (p.call_statement limit n (record { name = text; token = at.place }) (toks_of ts ++ rest)) (p.assignment_rest limit n (record { name = text; token = at.place }) None (toks_of ts ++ rest))))
         (sym (argument_parenthesis (suc l) ts xs rest a))
         (map_to limit (λ trees. stmt.Call text trees at.place)
-        (arguments_reads limit (suc l) (inside limit n) (inside_at limit n (suc l) e) (inside_reads limit n (suc l) e) ts xs rest a))))
+        (arguments_reads limit (suc l) (levels_inside limit n) (inside_at limit n (suc l) e) (inside_reads limit n (suc l) e) ts xs rest a))))
     named_goes _ _ rest (gr.release at left right h v) q k = absurd (true≢false (sym (ap is_named q)))
     named_goes _ _ rest (gr.check at left right h) q k = absurd (true≢false (sym (ap is_named q)))
 
     release_goes : (ts : List Bounded) (x : Expr) (at left right : Spot) (rest : List Tok) → Expression (suc l) ts x
         → Goes limit (p.release limit n) (g.word at words.Release ∷ g.sign left signs.LeftParenthesis ∷ ts ++ g.sign right signs.RightParenthesis ∷ []) rest (stmt.Release x at.place)
     unfolding p.release
-    release_goes ts x at left right rest v = step limit (word words.Release) _ (g.word at words.Release ∷ []) (g.sign left signs.LeftParenthesis ∷ ts ++ g.sign right signs.RightParenthesis ∷ []) (word_goes limit words.Release at _)
+    release_goes ts x at left right rest v = step limit (word_token words.Release) _ (g.word at words.Release ∷ []) (g.sign left signs.LeftParenthesis ∷ ts ++ g.sign right signs.RightParenthesis ∷ []) (word_goes limit words.Release at _)
         (map_to limit (λ value. stmt.Release value at.place) (condition_goes n (suc l) e ts [] x left right rest v))
 
     check_goes : (at left right : Spot) (rest : List Tok)
         → Goes limit p.check (g.word at words.Check ∷ g.sign left signs.LeftParenthesis ∷ g.sign right signs.RightParenthesis ∷ []) rest (stmt.Check at.place)
     unfolding p.check
-    check_goes at left right rest = step limit (word words.Check) _ (g.word at words.Check ∷ []) (g.sign left signs.LeftParenthesis ∷ g.sign right signs.RightParenthesis ∷ []) (word_goes limit words.Check at _)
-        (step limit (sign signs.LeftParenthesis) _ (g.sign left signs.LeftParenthesis ∷ []) (g.sign right signs.RightParenthesis ∷ []) (sign_goes limit signs.LeftParenthesis left _)
+    check_goes at left right rest = step limit (word_token words.Check) _ (g.word at words.Check ∷ []) (g.sign left signs.LeftParenthesis ∷ g.sign right signs.RightParenthesis ∷ []) (word_goes limit words.Check at _)
+        (step limit (sign_token signs.LeftParenthesis) _ (g.sign left signs.LeftParenthesis ∷ []) (g.sign right signs.RightParenthesis ∷ []) (sign_goes limit signs.LeftParenthesis left _)
         (map_to limit (λ _. stmt.Check at.place) (sign_goes limit signs.RightParenthesis right rest)))
 
     simple_inside_goes : (ts : List Bounded) (x : Stmt) (rest : List Tok) → Simple l ts x → Ends 10 rest → Goes limit (p.simple_inside limit n) ts rest x
@@ -168,13 +168,13 @@ module _ (limit : ℕ) where
     ended_goes : (q : Parser Stmt) (ts : List Bounded) (x : Stmt) (end : Spot) (rest : List Tok) → Goes limit q ts (tok_of (g.sign end signs.Semicolon) ∷ rest) x
         → Goes limit (p.ended q) (ts ++ g.sign end signs.Semicolon ∷ []) rest x
     unfolding p.ended
-    ended_goes q ts x end rest h = step limit q (λ tree. sign signs.Semicolon >>= (λ _. gives tree)) ts (g.sign end signs.Semicolon ∷ []) h (map_to limit (λ _. x) (sign_goes limit signs.Semicolon end rest))
+    ended_goes q ts x end rest h = step limit q (λ tree. sign_token signs.Semicolon >>= (λ _. gives tree)) ts (g.sign end signs.Semicolon ∷ []) h (map_to limit (λ _. x) (sign_goes limit signs.Semicolon end rest))
 
     return_goes : (ts : List Bounded) (x : Option Expr) (at end : Spot) (rest : List Tok) → Maybe (suc l) ts x
         → Goes limit (p.ended (p.plain_inside limit n)) (g.word at words.Return ∷ ts ++ g.sign end signs.Semicolon ∷ []) rest (stmt.Return x at.place)
     unfolding p.plain_inside plain_at p.returned
     return_goes ts x at end rest m = ended_goes (p.plain_inside limit n) (g.word at words.Return ∷ ts) (stmt.Return x at.place) end rest
-        (step limit (word words.Return) _ (g.word at words.Return ∷ []) ts (word_goes limit words.Return at _)
+        (step limit (word_token words.Return) _ (g.word at words.Return ∷ []) ts (word_goes limit words.Return at _)
         (map_to limit (λ value. stmt.Return value at.place) (maybe_goes n (suc l) e ts x end rest m)))
 
     break_goes : (at end : Spot) (rest : List Tok)
@@ -188,7 +188,7 @@ module _ (limit : ℕ) where
     continue_goes at end rest = ended_goes (p.plain_inside limit n) (g.word at words.Continue ∷ []) (stmt.Continue at.place) end rest (map_to limit (λ place. stmt.Continue place) (word_goes limit words.Continue at _))
 
 -- what simple statements begin with
-simple_start : (l : ℕ) (ts : List Bounded) (x : Stmt) (s : List Tok) → Simple l ts x → start_of (first_kind (toks_of ts ++ s)) ≡ start.Plain
+simple_start : (l : ℕ) (ts : List Bounded) (x : Stmt) (s : List Tok) → Simple l ts x → statement_start (first_kind (toks_of ts ++ s)) ≡ start.Plain
 simple_start l _ _ s (gr.assign text at equals h v) = refl
 simple_start l _ _ s (gr.assign_at text at left right equals h i v w) = refl
 simple_start l _ _ s (gr.call text at h a) = refl
@@ -213,7 +213,7 @@ simple_no_right l _ _ s (gr.check at left right h) = refl
 
 -- the first token of a statement, which opens its level
 abbrev pub Opening : ℕ → List Bounded → Type 0
-Opening l ts = (t : Bounded) × (after : List Bounded) × (ts ≡ t ∷ after) × (l < t.spot.bound) × (begins_statement (start_of (Some t.kind)) ≡ true)
+Opening l ts = (t : Bounded) × (after : List Bounded) × (ts ≡ t ∷ after) × (l < t.spot.bound) × (begins_statement (statement_start (Some t.kind)) ≡ true)
 
 simple_opening : (l : ℕ) (ts : List Bounded) (x : Stmt) → Simple l ts x → Opening l ts
 simple_opening l _ _ (gr.assign text at equals h v) = (_, _, refl, h, refl)
@@ -235,7 +235,7 @@ statement_opening l _ _ _ (gr.if_else at left right else h t b o) = (_, _, refl,
 statement_opening l _ _ _ (gr.while at left right h t b) = (_, _, refl, h, refl)
 statement_opening l _ _ _ (gr.for at left second third right h f t p b) = (_, _, refl, h, refl)
 
-pub opening_late : (limit l : ℕ) {A : Type 0} (ts : List Bounded) (rest : List Tok) (end : Outcome A) → limit ≤ l → Opening l ts → To limit ts rest end (stop deep (toks_of ts ++ rest))
+pub opening_late : (limit l : ℕ) {A : Type 0} (ts : List Bounded) (rest : List Tok) (end : ParseOutcome A) → limit ≤ l → Opening l ts → To limit ts rest end (stop deep (toks_of ts ++ rest))
 opening_late limit l ts rest end a o = subst (λ ts. To limit ts rest end (stop deep (toks_of ts ++ rest))) (sym o.2) (late [] o.0 o.1 refl (omega (arith, a, o.3)))
 
 module _ (limit : ℕ) where
@@ -250,19 +250,19 @@ module _ (limit : ℕ) where
       (sym (simple_begins l ts x rest h)) (simple_level n l e ts x rest h k)
 
   pub local_goes : (n l : ℕ) → l + n ≡ limit → (ts : List Bounded) (x : Stmt) (end : Spot) (s : List Tok) → Local l ts x
-      → Goes limit (p.local limit n) ts (tok_of (g.sign end signs.Semicolon) ∷ s) x
-  unfolding p.local
+      → Goes limit (p.local_statement limit n) ts (tok_of (g.sign end signs.Semicolon) ∷ s) x
+  unfolding p.local_statement
   local_goes zero l e _ _ end s (gr.plain {ts} {is_unsigned} first at text h t) = type_deep limit l first ts _ is_unsigned _ _ (omega (arith, e)) h t
   local_goes zero l e _ _ end s (gr.valued {ts} {is_unsigned} first at equals text h t v) = type_deep limit l first ts _ is_unsigned _ _ (omega (arith, e)) h t
   local_goes (suc n) l e ts x end s h = local_inside_goes limit n l (omega (arith, e)) ts x end s h
 
 -- a local begins with its type
-type_start : (first : Spot) (ts us : List Bounded) (u : Bool) (s : List Tok) → IsType first ts u → start_of (first_kind (toks_of (ts ++ us) ++ s)) ≡ start.Local
+type_start : (first : Spot) (ts us : List Bounded) (u : Bool) (s : List Tok) → IsType first ts u → statement_start (first_kind (toks_of (ts ++ us) ++ s)) ≡ start.Local
 type_start _ _ us u s (gr.int first) = refl
 type_start _ _ us u s (gr.unsigned first) = refl
 type_start _ _ us u s (gr.unsigned_int first then) = refl
 
-pub local_start : (l : ℕ) (ts : List Bounded) (x : Stmt) (s : List Tok) → Local l ts x → start_of (first_kind (toks_of ts ++ s)) ≡ start.Local
+pub local_start : (l : ℕ) (ts : List Bounded) (x : Stmt) (s : List Tok) → Local l ts x → statement_start (first_kind (toks_of ts ++ s)) ≡ start.Local
 local_start l _ _ s (gr.plain {ts} {is_unsigned} first at text h t) = type_start first ts _ is_unsigned s t
 local_start l _ _ s (gr.valued {ts} {is_unsigned} first at equals text h t v) = type_start first ts _ is_unsigned s t
 
@@ -293,7 +293,7 @@ module _ (limit n l : ℕ) (e : l + n ≡ limit) where
       (append_assoc ts (g.sign second signs.Semicolon ∷ []) ((us ++ g.sign third signs.Semicolon ∷ []) ++ (vs ++ g.sign right signs.RightParenthesis ∷ []))
       ∙ ap (λ us. ts ++ (g.sign second signs.Semicolon ∷ us)) (append_assoc us (g.sign third signs.Semicolon ∷ []) (vs ++ g.sign right signs.RightParenthesis ∷ [])))
       (step limit (p.opening limit n) _ (g.sign left signs.LeftParenthesis ∷ ts ++ g.sign second signs.Semicolon ∷ []) ((us ++ g.sign third signs.Semicolon ∷ []) ++ (vs ++ g.sign right signs.RightParenthesis ∷ []))
-      (step limit (sign signs.LeftParenthesis) _ (g.sign left signs.LeftParenthesis ∷ []) (ts ++ g.sign second signs.Semicolon ∷ []) (sign_goes limit signs.LeftParenthesis left _)
+      (step limit (sign_token signs.LeftParenthesis) _ (g.sign left signs.LeftParenthesis ∷ []) (ts ++ g.sign second signs.Semicolon ∷ []) (sign_goes limit signs.LeftParenthesis left _)
       (step limit (p.first_part limit n) _ ts (g.sign second signs.Semicolon ∷ []) (first_goes ts first second _ f) (map_to limit (λ _. first) (sign_goes limit signs.Semicolon second _))))
       (step limit (p.test_part limit n) _ (us ++ g.sign third signs.Semicolon ∷ []) (vs ++ g.sign right signs.RightParenthesis ∷ [])
       (step limit (λ s. p.expression_unless limit n (is_at_sign signs.Semicolon s) s) _ us (g.sign third signs.Semicolon ∷ []) (maybe_goes limit n l e us test third _ m)
@@ -302,14 +302,14 @@ module _ (limit n l : ℕ) (e : l + n ≡ limit) where
       (step limit (p.step_part limit n) _ vs (g.sign right signs.RightParenthesis ∷ []) (step_goes vs step_of right rest q) (map_to limit (λ _. step_of) (sign_goes limit signs.RightParenthesis right rest))))))
 
 -- what a statement begins with
-begins_else : (k : Kind) → begins_statement (start_of (Some k)) ≡ true → is_some_word words.Else (Some k) ≡ false
+begins_else : (k : Kind) → begins_statement (statement_start (Some k)) ≡ true → is_some_word words.Else (Some k) ≡ false
 begins_else (kinds.Word words.Else) e = absurd (true≢false (sym e))
 begins_else (kinds.Word x) e = grind arith
 begins_else (kinds.Sign x) e = refl
 begins_else (kinds.Name x) e = refl
 begins_else (kinds.Number x u) e = refl
 
-begins_brace : (k : Kind) → begins_statement (start_of (Some k)) ≡ true → is_some_sign signs.RightBrace (Some k) ≡ false
+begins_brace : (k : Kind) → begins_statement (statement_start (Some k)) ≡ true → is_some_sign signs.RightBrace (Some k) ≡ false
 begins_brace (kinds.Sign signs.RightBrace) e = absurd (true≢false (sym e))
 begins_brace (kinds.Sign x) e = grind arith
 begins_brace (kinds.Word x) e = refl
@@ -323,13 +323,13 @@ opening_no_else : (l : ℕ) (ts : List Bounded) (s : List Tok) → Opening l ts 
 unfolding is_at_word
 opening_no_else l ts s o = subst (λ ts. is_some_word words.Else (first_kind (toks_of ts ++ s)) ≡ false) (sym o.2) (begins_else o.0.kind o.4)
 
-opening_goes_on : (l : ℕ) (ts : List Bounded) (s : List Tok) → Opening l ts → p.goes_on (toks_of ts ++ s) ≡ true
-unfolding p.goes_on is_at_sign
+opening_goes_on : (l : ℕ) (ts : List Bounded) (s : List Tok) → Opening l ts → p.block_goes_on (toks_of ts ++ s) ≡ true
+unfolding p.block_goes_on is_at_sign
 opening_goes_on l ts s o = subst (λ ts. not (is_some_sign signs.RightBrace (first_kind (toks_of ts ++ s))) ≡ true) (sym o.2) (ap not (begins_brace o.0.kind o.4))
 
 opening_begins : (l : ℕ) (ts : List Bounded) (s : List Tok) → Opening l ts → begins_statement (start_at (toks_of ts ++ s)) ≡ true
 unfolding start_at
-opening_begins l ts s o = subst (λ ts. begins_statement (start_of (first_kind (toks_of ts ++ s))) ≡ true) (sym o.2) o.4
+opening_begins l ts s o = subst (λ ts. begins_statement (statement_start (first_kind (toks_of ts ++ s))) ≡ true) (sym o.2) o.4
 
 type_no_else : (first : Spot) (ts us : List Bounded) (u : Bool) (s : List Tok) → IsType first ts u → NoElse (toks_of (ts ++ us) ++ s)
 unfolding is_at_word
@@ -337,8 +337,8 @@ type_no_else _ _ us u s (gr.int first) = refl
 type_no_else _ _ us u s (gr.unsigned first) = refl
 type_no_else _ _ us u s (gr.unsigned_int first then) = refl
 
-type_goes_on : (first : Spot) (ts us : List Bounded) (u : Bool) (s : List Tok) → IsType first ts u → p.goes_on (toks_of (ts ++ us) ++ s) ≡ true
-unfolding p.goes_on is_at_sign
+type_goes_on : (first : Spot) (ts us : List Bounded) (u : Bool) (s : List Tok) → IsType first ts u → p.block_goes_on (toks_of (ts ++ us) ++ s) ≡ true
+unfolding p.block_goes_on is_at_sign
 type_goes_on _ _ us u s (gr.int first) = refl
 type_goes_on _ _ us u s (gr.unsigned first) = refl
 type_goes_on _ _ us u s (gr.unsigned_int first then) = refl
@@ -347,7 +347,7 @@ local_no_else : (l : ℕ) (ts : List Bounded) (x : Stmt) (s : List Tok) → Loca
 local_no_else l _ _ s (gr.plain {ts} {is_unsigned} first at text h t) = type_no_else first ts _ is_unsigned s t
 local_no_else l _ _ s (gr.valued {ts} {is_unsigned} first at equals text h t v) = type_no_else first ts _ is_unsigned s t
 
-local_goes_on : (l : ℕ) (ts : List Bounded) (x : Stmt) (s : List Tok) → Local l ts x → p.goes_on (toks_of ts ++ s) ≡ true
+local_goes_on : (l : ℕ) (ts : List Bounded) (x : Stmt) (s : List Tok) → Local l ts x → p.block_goes_on (toks_of ts ++ s) ≡ true
 local_goes_on l _ _ s (gr.plain {ts} {is_unsigned} first at text h t) = type_goes_on first ts _ is_unsigned s t
 local_goes_on l _ _ s (gr.valued {ts} {is_unsigned} first at equals text h t v) = type_goes_on first ts _ is_unsigned s t
 
@@ -355,8 +355,8 @@ entry_no_else : (l : ℕ) (ts : List Bounded) (x : Stmt) (s : List Tok) → Entr
 entry_no_else l _ x s (local_entry {ts} end h) = subst (λ s. NoElse s) (sym (put-append ts (g.sign end signs.Semicolon ∷ []) s)) (local_no_else l ts x _ h)
 entry_no_else l ts x s (statement_entry {takes} h) = opening_no_else l ts s (statement_opening l ts x takes h)
 
-entry_goes_on : (l : ℕ) (ts : List Bounded) (x : Stmt) (s : List Tok) → Entry l ts x → p.goes_on (toks_of ts ++ s) ≡ true
-entry_goes_on l _ x s (local_entry {ts} end h) = ap p.goes_on (put-append ts (g.sign end signs.Semicolon ∷ []) s) ∙ local_goes_on l ts x _ h
+entry_goes_on : (l : ℕ) (ts : List Bounded) (x : Stmt) (s : List Tok) → Entry l ts x → p.block_goes_on (toks_of ts ++ s) ≡ true
+entry_goes_on l _ x s (local_entry {ts} end h) = ap p.block_goes_on (put-append ts (g.sign end signs.Semicolon ∷ []) s) ∙ local_goes_on l ts x _ h
 entry_goes_on l ts x s (statement_entry {takes} h) = opening_goes_on l ts s (statement_opening l ts x takes h)
 
 body_many : (l : ℕ) (ts : List Bounded) (xs : List Stmt) → Body l ts xs → Many (Entry l) ts xs
@@ -381,26 +381,26 @@ module _ (limit n l : ℕ) (e : l + n ≡ limit) {S : Parser Stmt} (always : Alw
   entry_other start.Other q = refl
 
   local_entry_goes : (ts : List Bounded) (x : Stmt) (end : Spot) (s : List Tok) → Local l ts x
-      → To limit (ts ++ g.sign end signs.Semicolon ∷ []) s (done x s) (p.ended (p.local limit n) (toks_of (ts ++ g.sign end signs.Semicolon ∷ []) ++ s))
+      → To limit (ts ++ g.sign end signs.Semicolon ∷ []) s (done x s) (p.ended (p.local_statement limit n) (toks_of (ts ++ g.sign end signs.Semicolon ∷ []) ++ s))
   unfolding p.ended
-  local_entry_goes ts x end s h = step limit (p.local limit n) _ ts (g.sign end signs.Semicolon ∷ []) (local_goes limit n l e ts x end s h) (map_to limit (λ _. x) (sign_goes limit signs.Semicolon end s))
+  local_entry_goes ts x end s h = step limit (p.local_statement limit n) _ ts (g.sign end signs.Semicolon ∷ []) (local_goes limit n l e ts x end s h) (map_to limit (λ _. x) (sign_goes limit signs.Semicolon end s))
 
   entry_goes : (ts : List Bounded) (x : Stmt) (s : List Tok) → Entry l ts x → NoElse s → Goes limit (p.entry limit n S) ts s x
   unfolding p.entry start_at
   entry_goes _ x s (local_entry {ts} end h) k = subst (λ t. To limit (ts ++ g.sign end signs.Semicolon ∷ []) s (done x s) (p.entry_by limit n S t (toks_of (ts ++ g.sign end signs.Semicolon ∷ []) ++ s)))
-      (sym (ap (λ s. start_of (first_kind s)) (put-append ts (g.sign end signs.Semicolon ∷ []) s) ∙ local_start l ts x _ h)) (local_entry_goes ts x end s h)
+      (sym (ap (λ s. statement_start (first_kind s)) (put-append ts (g.sign end signs.Semicolon ∷ []) s) ∙ local_start l ts x _ h)) (local_entry_goes ts x end s h)
   entry_goes ts x s (statement_entry {takes} h) k = subst (λ q. To limit ts s (done x s) (q (toks_of ts ++ s)))
-      (entry_other (start_of (first_kind (toks_of ts ++ s))) (opening_begins l ts s (statement_opening l ts x takes h))) (reads ts x takes s h (λ _. k))
+      (entry_other (statement_start (first_kind (toks_of ts ++ s))) (opening_begins l ts s (statement_opening l ts x takes h))) (reads ts x takes s h (λ _. k))
 
   pub entries_goes : (ts : List Bounded) (xs : List Stmt) (right : Spot) (s : List Tok) → Body l ts xs → Goes limit (p.entries limit n S) ts (tok_of (g.sign right signs.RightBrace) ∷ s) xs
-  unfolding p.entries p.goes_on is_at_sign is_at_word
-  entries_goes ts xs right s b = all_reads limit p.goes_on (go.head_goes limit n l e always) (entry_at limit n l e always) (entry_takes l) NoElse
+  unfolding p.entries p.block_goes_on is_at_sign is_at_word
+  entries_goes ts xs right s b = all_reads limit p.block_goes_on (go.head_goes limit n l e always) (entry_at limit n l e always) (entry_takes l) NoElse
       (entry_goes_on l) (entry_no_else l) entry_goes ts xs (tok_of (g.sign right signs.RightBrace) ∷ s) (body_many l ts xs b) refl refl
 
   pub braced_goes : (ts : List Bounded) (xs : List Stmt) (left right : Spot) (s : List Tok) → Body l ts xs
       → Goes limit (p.braced limit n S) (g.sign left signs.LeftBrace ∷ ts ++ g.sign right signs.RightBrace ∷ []) s (record { body = xs; token = left.place })
   unfolding p.braced
-  braced_goes ts xs left right s b = step limit (sign signs.LeftBrace) _ (g.sign left signs.LeftBrace ∷ []) (ts ++ g.sign right signs.RightBrace ∷ []) (sign_goes limit signs.LeftBrace left _)
+  braced_goes ts xs left right s b = step limit (sign_token signs.LeftBrace) _ (g.sign left signs.LeftBrace ∷ []) (ts ++ g.sign right signs.RightBrace ∷ []) (sign_goes limit signs.LeftBrace left _)
       (step limit (p.entries limit n S) _ ts (g.sign right signs.RightBrace ∷ []) (entries_goes ts xs right s b)
       (map_to limit (λ _. record { body = xs; token = left.place }) (sign_goes limit signs.RightBrace right s)))
 
@@ -410,8 +410,8 @@ module _ (limit n l : ℕ) (e : suc l + n ≡ limit) {S : Parser Stmt} (always :
   unfolding p.while_loop
   while_goes ts us test body takes at left right rest v b k =
       subst (λ ts. Goes limit (p.while_loop limit n S) (g.word at words.While ∷ g.sign left signs.LeftParenthesis ∷ ts) rest (stmt.While test body at.place)) (append_assoc ts (g.sign right signs.RightParenthesis ∷ []) us)
-      (step limit (word words.While) _ (g.word at words.While ∷ []) ((g.sign left signs.LeftParenthesis ∷ ts ++ g.sign right signs.RightParenthesis ∷ []) ++ us) (word_goes limit words.While at _)
-      (step limit (p.condition limit n) _ (g.sign left signs.LeftParenthesis ∷ ts ++ g.sign right signs.RightParenthesis ∷ []) us (condition_goes limit n (suc l) e ts [] test left right _ v)
+      (step limit (word_token words.While) _ (g.word at words.While ∷ []) ((g.sign left signs.LeftParenthesis ∷ ts ++ g.sign right signs.RightParenthesis ∷ []) ++ us) (word_goes limit words.While at _)
+      (step limit (p.parenthesised_test limit n) _ (g.sign left signs.LeftParenthesis ∷ ts ++ g.sign right signs.RightParenthesis ∷ []) us (condition_goes limit n (suc l) e ts [] test left right _ v)
       (map_to limit (λ body. stmt.While test body at.place) (reads us body takes rest b k))))
 
   for_goes : (ts us vs ws : List Bounded) (first step_of : Option Stmt) (test : Option Expr) (body : Stmt) (takes : Bool) (at left second third right : Spot) (rest : List Tok)
@@ -424,7 +424,7 @@ module _ (limit n l : ℕ) (e : suc l + n ≡ limit) {S : Parser Stmt} (always :
       (append_assoc ts (g.sign second signs.Semicolon ∷ us ++ (g.sign third signs.Semicolon ∷ vs ++ g.sign right signs.RightParenthesis ∷ [])) ws
       ∙ ap (λ us. ts ++ (g.sign second signs.Semicolon ∷ us)) (append_assoc us (g.sign third signs.Semicolon ∷ vs ++ g.sign right signs.RightParenthesis ∷ []) ws)
       ∙ ap (λ vs. ts ++ (g.sign second signs.Semicolon ∷ us ++ (g.sign third signs.Semicolon ∷ vs))) (append_assoc vs (g.sign right signs.RightParenthesis ∷ []) ws))
-      (step limit (word words.For) _ (g.word at words.For ∷ [])
+      (step limit (word_token words.For) _ (g.word at words.For ∷ [])
       ((g.sign left signs.LeftParenthesis ∷ ts ++ (g.sign second signs.Semicolon ∷ us ++ (g.sign third signs.Semicolon ∷ vs ++ g.sign right signs.RightParenthesis ∷ []))) ++ ws) (word_goes limit words.For at _)
       (step limit (p.head limit n) _ (g.sign left signs.LeftParenthesis ∷ ts ++ (g.sign second signs.Semicolon ∷ us ++ (g.sign third signs.Semicolon ∷ vs ++ g.sign right signs.RightParenthesis ∷ []))) ws
       (head_goes limit n (suc l) e ts us vs first step_of test left second third right _ f m q)
@@ -435,12 +435,12 @@ module _ (limit n l : ℕ) (e : suc l + n ≡ limit) {S : Parser Stmt} (always :
   unfolding p.conditional p.optional_else
   if_goes ts us test body takes at left right rest v b k =
       subst (λ ts. Goes limit (p.conditional limit n S) (g.word at words.If ∷ g.sign left signs.LeftParenthesis ∷ ts) rest (stmt.If test body None at.place)) (append_assoc ts (g.sign right signs.RightParenthesis ∷ []) us)
-      (step limit (word words.If) _ (g.word at words.If ∷ []) ((g.sign left signs.LeftParenthesis ∷ ts ++ g.sign right signs.RightParenthesis ∷ []) ++ us) (word_goes limit words.If at _)
-      (step limit (p.condition limit n) _ (g.sign left signs.LeftParenthesis ∷ ts ++ g.sign right signs.RightParenthesis ∷ []) us (condition_goes limit n (suc l) e ts [] test left right _ v)
+      (step limit (word_token words.If) _ (g.word at words.If ∷ []) ((g.sign left signs.LeftParenthesis ∷ ts ++ g.sign right signs.RightParenthesis ∷ []) ++ us) (word_goes limit words.If at _)
+      (step limit (p.parenthesised_test limit n) _ (g.sign left signs.LeftParenthesis ∷ ts ++ g.sign right signs.RightParenthesis ∷ []) us (condition_goes limit n (suc l) e ts [] test left right _ v)
       (subst (λ us. To limit us rest (done (stmt.If test body None at.place) rest) (follow (S (toks_of us ++ rest)) (λ body s. follow (p.optional_else S s) (λ other. gives (stmt.If test body other at.place))))) (append-nil us)
       (step limit S (λ body s. follow (p.optional_else S s) (λ other. gives (stmt.If test body other at.place))) us [] (reads us body takes rest b (λ _. k))
       (map_to limit (λ other. stmt.If test body other at.place)
-      (subst (λ b. To limit [] rest (done None rest) (cond b (follow (word words.Else rest) (λ _ t. follow (S t) (λ other. gives (Some other)))) (done None rest))) (sym k) arrives))))))
+      (subst (λ b. To limit [] rest (done None rest) (cond b (follow (word_token words.Else rest) (λ _ t. follow (S t) (λ other. gives (Some other)))) (done None rest))) (sym k) arrives))))))
 
   else_goes : (ts us vs : List Bounded) (test : Expr) (body other : Stmt) (takes : Bool) (at left right else : Spot) (rest : List Tok) → Expression (suc l) ts test → Statement (suc l) us body false
       → Statement (suc l) vs other takes → (takes ≡ true → NoElse rest)
@@ -449,19 +449,19 @@ module _ (limit n l : ℕ) (e : suc l + n ≡ limit) {S : Parser Stmt} (always :
   else_goes ts us vs test body other takes at left right else rest v b o k =
       subst (λ ts. Goes limit (p.conditional limit n S) (g.word at words.If ∷ g.sign left signs.LeftParenthesis ∷ ts) rest (stmt.If test body (Some other) at.place))
       (append_assoc ts (g.sign right signs.RightParenthesis ∷ []) (us ++ g.word else words.Else ∷ vs))
-      (step limit (word words.If) _ (g.word at words.If ∷ []) ((g.sign left signs.LeftParenthesis ∷ ts ++ g.sign right signs.RightParenthesis ∷ []) ++ (us ++ g.word else words.Else ∷ vs)) (word_goes limit words.If at _)
-      (step limit (p.condition limit n) _ (g.sign left signs.LeftParenthesis ∷ ts ++ g.sign right signs.RightParenthesis ∷ []) (us ++ g.word else words.Else ∷ vs) (condition_goes limit n (suc l) e ts [] test left right _ v)
+      (step limit (word_token words.If) _ (g.word at words.If ∷ []) ((g.sign left signs.LeftParenthesis ∷ ts ++ g.sign right signs.RightParenthesis ∷ []) ++ (us ++ g.word else words.Else ∷ vs)) (word_goes limit words.If at _)
+      (step limit (p.parenthesised_test limit n) _ (g.sign left signs.LeftParenthesis ∷ ts ++ g.sign right signs.RightParenthesis ∷ []) (us ++ g.word else words.Else ∷ vs) (condition_goes limit n (suc l) e ts [] test left right _ v)
       (step limit S _ us (g.word else words.Else ∷ vs) (reads us body false _ b (λ q. absurd (true≢false (sym q))))
       (map_to limit (λ other. stmt.If test body other at.place)
-      (step limit (word words.Else) _ (g.word else words.Else ∷ []) vs (word_goes limit words.Else else _)
+      (step limit (word_token words.Else) _ (g.word else words.Else ∷ []) vs (word_goes limit words.Else else _)
       (map_to limit Some (reads vs other takes rest o k)))))))
 
   inside_goes : Understands limit l (p.statement_inside limit n S)
-  unfolding p.statement_inside start_at p.block p.empty
+  unfolding p.statement_inside start_at p.block_statement p.empty
   inside_goes _ _ _ rest (gr.block {ts} {xs} left right h b) k = map_to limit (λ parts. stmt.Block parts.body parts.token) (braced_goes limit n (suc l) e always reads ts xs left right rest b)
   inside_goes _ _ _ rest (gr.empty at h) k = map_to limit (λ place. stmt.Empty place) (sign_goes limit signs.Semicolon at rest)
   inside_goes _ x _ rest (gr.simple {ts} end h) k = subst (λ t. To limit (ts ++ g.sign end signs.Semicolon ∷ []) rest (done x rest) (p.statement_by limit n S t (toks_of (ts ++ g.sign end signs.Semicolon ∷ []) ++ rest)))
-      (sym (ap (λ s. start_of (first_kind s)) (put-append ts (g.sign end signs.Semicolon ∷ []) rest) ∙ simple_start l ts x _ h))
+      (sym (ap (λ s. statement_start (first_kind s)) (put-append ts (g.sign end signs.Semicolon ∷ []) rest) ∙ simple_start l ts x _ h))
       (ended_goes limit n l e (p.plain_inside limit n) ts x end rest (plain_simple_goes limit n l e ts x _ h (ends_semicolon end rest)))
   inside_goes _ _ _ rest (gr.return {ts} {value} at end h m) k = return_goes limit n l e ts value at end rest m
   inside_goes _ _ _ rest (gr.break at end h) k = break_goes limit n l e at end rest

@@ -5,11 +5,11 @@ use Rattle.c_token.specs.declared.kinds.Kind.{Kind}
 use Rattle.c_grammar.specs.declared.item.Program.{Program}
 use Rattle.c_grammar.specs.BoundedTokens.{Tok, numbered}
 use Rattle.c_grammar.specs.TokenPrograms.{AreProgram, IsExpectedAt, IsDeepAt, IsShallowBefore}
-use Rattle.c_descent.specs.ListParser.{expected, deep, Outcome, done, stop, place_or}
+use Rattle.c_descent.specs.ListParser.{expected, deep, ParseOutcome, done, stop, place_or}
 use Rattle.c_descent.specs.ProgramParser.{program}
 
 -- what the parser makes of tokens of these kinds, numbered from 0
-abbrev pub parsed : List Kind → Outcome Program
+abbrev pub parsed : List Kind → ParseOutcome Program
 parsed kinds = program MAX_BINARY_OPERATORS MAX_NESTING (numbered 0 kinds)
 
 -- it reads them all as a program where they are that program, and only there

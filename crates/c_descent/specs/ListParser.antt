@@ -18,15 +18,15 @@ pub data Reason : Type 0 where
   deep : Reason
   exhausted : Reason
 
-pub data Outcome (A : Type 0) : Type 0 where
-  done : A → List Tok → Outcome A
-  stop : Reason → List Tok → Outcome A
+pub data ParseOutcome (A : Type 0) : Type 0 where
+  done : A → List Tok → ParseOutcome A
+  stop : Reason → List Tok → ParseOutcome A
 
 abbrev pub Parser : Type 0 → Type 0
-Parser A = List Tok → Outcome A
+Parser A = List Tok → ParseOutcome A
 
 -- an outcome, and what is read after it
-abbrev pub follow : {A B : Type 0} → Outcome A → (A → Parser B) → Outcome B
+abbrev pub follow : {A B : Type 0} → ParseOutcome A → (A → Parser B) → ParseOutcome B
 follow (done x left) f = f x left
 follow (stop reason left) f = stop reason left
 
@@ -73,38 +73,38 @@ passed true (t ∷ ts) = done t.place ts
 passed _ s = stop expected s
 
 -- this sign, and its number
-unfoldable pub sign : Sign → Parser ℕ
-sign x tokens = passed (is_at_sign x tokens) tokens
+unfoldable pub sign_token : Sign → Parser ℕ
+sign_token x tokens = passed (is_at_sign x tokens) tokens
 
 -- this word, and its number
-unfoldable pub word : Word → Parser ℕ
-word x tokens = passed (is_at_word x tokens) tokens
+unfoldable pub word_token : Word → Parser ℕ
+word_token x tokens = passed (is_at_word x tokens) tokens
 
 -- the name, where it is one
-abbrev pub name_of : Option Kind → Option (List ℕ)
-name_of (Some (kinds.Name x)) = Some x
-name_of _ = None
+abbrev pub kind_name : Option Kind → Option (List ℕ)
+kind_name (Some (kinds.Name x)) = Some x
+kind_name _ = None
 
 -- the name that the first token is
-abbrev pub named : Option Kind → Parser Named
-named (Some (kinds.Name x)) (t ∷ ts) = done (record { name = x; token = t.place }) ts
-named _ s = stop expected s
+abbrev pub name_by : Option Kind → Parser Named
+name_by (Some (kinds.Name x)) (t ∷ ts) = done (record { name = x; token = t.place }) ts
+name_by _ s = stop expected s
 
 -- a name
-unfoldable pub name : Parser Named
-name tokens = named (first_kind tokens) tokens
+unfoldable pub name_token : Parser Named
+name_token tokens = name_by (first_kind tokens) tokens
 
 -- the number that the first token is
-abbrev pub numeral : Option Kind → Parser Numeral
-numeral (Some (kinds.Number x u)) (t ∷ ts) = done (record { value = x; unsigned = u; token = t.place }) ts
-numeral _ s = stop expected s
+abbrev pub number_by : Option Kind → Parser Numeral
+number_by (Some (kinds.Number x u)) (t ∷ ts) = done (record { value = x; unsigned = u; token = t.place }) ts
+number_by _ s = stop expected s
 
 -- a number
-unfoldable pub number : Parser Numeral
-number tokens = numeral (first_kind tokens) tokens
+unfoldable pub number_token : Parser Numeral
+number_token tokens = number_by (first_kind tokens) tokens
 
 -- a list before what is read after it
-abbrev pub prepend : {A : Type 0} → List A → Outcome (List A) → Outcome (List A)
+abbrev pub prepend : {A : Type 0} → List A → ParseOutcome (List A) → ParseOutcome (List A)
 prepend xs (done ys left) = done (xs ++ ys) left
 prepend xs (stop reason left) = stop reason left
 
@@ -120,7 +120,7 @@ all follows p s = many (suc (length s)) follows p s
 -- a comma, and what stands after it
 unfoldable pub after_comma : {A : Type 0} → Parser A → Parser A
 after_comma p = do
-  _ ← sign signs.Comma
+  _ ← sign_token signs.Comma
   p
 
 -- one or more, with commas between them

@@ -20,7 +20,7 @@ use Rattle.c_descent.specs.declared.parts.Heading.{Heading}
 use Rattle.c_descent.specs.declared.parts.Heading.TheVariants as heading
 use Rattle.c_descent.specs.declared.parts.Given.{Given}
 use Rattle.c_grammar.specs.BoundedTokens.{Tok}
-use Rattle.c_descent.specs.ListParser.{done, Parser, ◌>>=◌, gives, refuses, first_kind, is_left, is_at_sign, is_at_word, sign, word, name, number, all, separated}
+use Rattle.c_descent.specs.ListParser.{done, Parser, ◌>>=◌, gives, refuses, first_kind, is_left, is_at_sign, is_at_word, sign_token, word_token, name_token, number_token, all, separated}
 use Rattle.c_descent.specs.StatementParser.{type_name, braced, statement}
 
 -- what a token begins at the top of a program
@@ -43,9 +43,9 @@ heading_at s = heading_of (first_kind s)
 -- `[ length ]`, if it stands there
 unfoldable pub optional_length : Parser (Option ℕ)
 optional_length = λ s. if is_at_sign signs.LeftBracket s then (do
-  _ ← sign signs.LeftBracket
-  found ← number
-  _ ← sign signs.RightBracket
+  _ ← sign_token signs.LeftBracket
+  found ← number_token
+  _ ← sign_token signs.RightBracket
   gives (Some found.value)) s
     else done None s
 
@@ -53,27 +53,27 @@ optional_length = λ s. if is_at_sign signs.LeftBracket s then (do
 unfoldable pub object_rest : Storage → Bool → Named → Parser Item
 object_rest class unsigned found = do
   length ← optional_length
-  _ ← sign signs.Semicolon
+  _ ← sign_token signs.Semicolon
   gives (item.Object class unsigned found.name length found.token)
 
 -- a word of storage, and the object after it
 unfoldable pub object : Word → Storage → Parser Item
 object w class = do
-  _ ← word w
+  _ ← word_token w
   unsigned ← type_name
-  found ← name
+  found ← name_token
   object_rest class unsigned found
 
 -- a number, and whether it is negative
 unfoldable pub value_with : Bool → Parser Value
 value_with negative = do
-  found ← number
+  found ← number_token
   gives (record { negative = negative; value = found.value; unsigned = found.unsigned })
 
 -- `-` and a number
 unfoldable pub negative_value : Parser Value
 negative_value = do
-  _ ← sign signs.Minus
+  _ ← sign_token signs.Minus
   value_with true
 
 -- a value of a constant
@@ -89,9 +89,9 @@ one_value = do
 -- values between braces
 unfoldable pub braced_values : Parser Given
 braced_values = do
-  _ ← sign signs.LeftBrace
+  _ ← sign_token signs.LeftBrace
   values ← separated value
-  _ ← sign signs.RightBrace
+  _ ← sign_token signs.RightBrace
   gives (record { values = values; braces = true })
 
 unfoldable pub values : Parser Given
@@ -101,61 +101,61 @@ values = λ s. if is_at_sign signs.LeftBrace s then braced_values s else one_val
 unfoldable pub constant_rest : Bool → Named → Parser Item
 constant_rest unsigned found = do
   length ← optional_length
-  _ ← sign signs.Assign
+  _ ← sign_token signs.Assign
   given ← values
-  _ ← sign signs.Semicolon
+  _ ← sign_token signs.Semicolon
   gives (item.Constant unsigned found.name length given.values given.braces found.token)
 
 -- a constant
 unfoldable pub constant : Parser Item
 constant = do
-  _ ← word words.Const
+  _ ← word_token words.Const
   unsigned ← type_name
-  found ← name
+  found ← name_token
   constant_rest unsigned found
 
 -- `( void ) ;`
 unfoldable pub no_parameters : Parser ℕ
 no_parameters = do
-  _ ← sign signs.LeftParenthesis
-  _ ← word words.Void
-  _ ← sign signs.RightParenthesis
-  sign signs.Semicolon
+  _ ← sign_token signs.LeftParenthesis
+  _ ← word_token words.Void
+  _ ← sign_token signs.RightParenthesis
+  sign_token signs.Semicolon
 
 -- a function of the untrusted code
 unfoldable pub untrusted : Parser Item
 untrusted = do
-  _ ← word words.Untrusted
-  _ ← word words.Void
-  found ← name
+  _ ← word_token words.Untrusted
+  _ ← word_token words.Void
+  found ← name_token
   _ ← no_parameters
   gives (item.Untrusted found.name found.token)
 
 -- a parameter
-unfoldable pub parameter : Parser Parameter
-parameter = do
+unfoldable pub one_parameter : Parser Parameter
+one_parameter = do
   unsigned ← type_name
-  found ← name
+  found ← name_token
   gives (record { unsigned = unsigned; name = found.name; token = found.token })
 
 -- the word `void` in the place of parameters
 unfoldable pub void_list : Parser (List Parameter)
 void_list = do
-  _ ← word words.Void
+  _ ← word_token words.Void
   gives []
 
 -- parameters, `void` or nothing, up to `)`, which is left
-unfoldable pub listed : Parser (List Parameter)
-listed = λ s.
+unfoldable pub parameter_list : Parser (List Parameter)
+parameter_list = λ s.
     if is_at_sign signs.RightParenthesis s then done [] s
-    else (if is_at_word words.Void s then void_list s else separated parameter s)
+    else (if is_at_word words.Void s then void_list s else separated one_parameter s)
 
 -- `(`, parameters and `)`
 unfoldable pub parameters : Parser (List Parameter)
 parameters = do
-  _ ← sign signs.LeftParenthesis
-  trees ← listed
-  _ ← sign signs.RightParenthesis
+  _ ← sign_token signs.LeftParenthesis
+  trees ← parameter_list
+  _ ← sign_token signs.RightParenthesis
   gives trees
 
 -- what stands after the name of a function
@@ -168,8 +168,8 @@ function_rest limit levels private result found = do
 -- a function that answers nothing
 unfoldable pub void_function : ℕ → ℕ → Bool → Parser Item
 void_function limit levels private = do
-  _ ← word words.Void
-  found ← name
+  _ ← word_token words.Void
+  found ← name_token
   function_rest limit levels private result.Void found
 
 -- how an object is kept: the word `__private` stands before it, or none
@@ -178,32 +178,32 @@ storage_of true = storage.Private
 storage_of false = storage.Verified
 
 -- what a function answers that is no `void`
-abbrev pub result_of : Bool → Kind3
-result_of true = result.Unsigned
-result_of false = result.Int
+abbrev pub result_kind : Bool → Kind3
+result_kind true = result.Unsigned
+result_kind false = result.Int
 
 -- what stands after a type and a name: a function's parameters, or the rest of an object
 unfoldable pub typed_rest : ℕ → ℕ → Bool → Bool → Named → Parser Item
 typed_rest limit levels private unsigned found = λ s.
-    if is_at_sign signs.LeftParenthesis s then function_rest limit levels private (result_of unsigned) found s
+    if is_at_sign signs.LeftParenthesis s then function_rest limit levels private (result_kind unsigned) found s
     else object_rest (storage_of private) unsigned found s
 
 -- a type, and the function or the object after it
-unfoldable pub typed : ℕ → ℕ → Bool → Parser Item
-typed limit levels private = do
+unfoldable pub typed_item : ℕ → ℕ → Bool → Parser Item
+typed_item limit levels private = do
   unsigned ← type_name
-  found ← name
+  found ← name_token
   typed_rest limit levels private unsigned found
 
 -- a function, or an object after no word of storage or `__private`
 unfoldable pub declared : ℕ → ℕ → Bool → Parser Item
 declared limit levels private = λ s.
-    if is_at_word words.Void s then void_function limit levels private s else typed limit levels private s
+    if is_at_word words.Void s then void_function limit levels private s else typed_item limit levels private s
 
 -- `__private`, and the function or the object after it
 unfoldable pub private_item : ℕ → ℕ → Parser Item
 private_item limit levels = do
-  _ ← word words.Private
+  _ ← word_token words.Private
   declared limit levels true
 
 -- the item that begins so
@@ -215,7 +215,7 @@ item_by limit levels heading.Private = private_item limit levels
 item_by limit levels heading.Constant = constant
 item_by limit levels heading.Untrusted = untrusted
 item_by limit levels heading.Void = void_function limit levels false
-item_by limit levels heading.Type = typed limit levels false
+item_by limit levels heading.Type = typed_item limit levels false
 item_by limit levels heading.Other = refuses
 
 unfoldable pub item_inside : ℕ → ℕ → Parser Item

@@ -2,7 +2,7 @@
 use Rattle.std.specs.Prelude.{◌≡◌, ℕ, suc, Result, Ok, Err, Some, None}
 use Rattle.c_parser.specs.declared.fault.Fault.{Fault}
 use Rattle.c_parser.specs.declared.fault.Fault.TheVariants.{Deep}
-use Rattle.c_descent.specs.ExpressionParser.{inside, unary}
+use Rattle.c_descent.specs.ExpressionParser.{levels_inside, unary_expression}
 
 -- whether a level is left, and how many are then
 abbrev pub OpensLevel : ℕ → Result ℕ Fault → Type 0
@@ -11,5 +11,5 @@ OpensLevel levels (Err fault) = (levels ≡ 0) × (fault ≡ Deep)
 
 -- whether a unary expression one level deeper can be read, and with how many levels left
 abbrev pub OpensInside : ℕ → ℕ → Result ℕ Fault → Type 0
-OpensInside limit levels (Ok left) = inside limit levels ≡ Some (unary limit left)
-OpensInside limit levels (Err fault) = inside limit levels ≡ None
+OpensInside limit levels (Ok left) = levels_inside limit levels ≡ Some (unary_expression limit left)
+OpensInside limit levels (Err fault) = levels_inside limit levels ≡ None

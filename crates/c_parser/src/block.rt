@@ -1,6 +1,6 @@
 //! Blocks, and the statements that hold statements.
 ghost use Rattle.std.specs.Prelude.{◌≡◌};
-ghost use Rattle.c_descent.specs.StatementParser.{optional_else, conditional, while_loop, for_loop, entry, goes_on, entries, braced, block, statement_inside, statement};
+ghost use Rattle.c_descent.specs.StatementParser.{optional_else, conditional, while_loop, for_loop, entry, block_goes_on, entries, braced, block_statement, statement_inside, statement};
 ghost use Rattle.c_parser.specs.CursorAnswers.{Matches, TakesSome, LeavesUpTo};
 
 use crate::cursor::Cursor;
@@ -106,9 +106,9 @@ fn entry(alloc: Global, cursor: &mut Cursor<'_>, levels: u32) -> Result<Stmt, Fa
 }
 
 /// Whether a block goes on.
-#[tactic(auto, unfolding(c_descent::specs::StatementParser::goes_on))]
+#[tactic(auto, unfolding(c_descent::specs::StatementParser::block_goes_on))]
 fn goes_on(cursor: &Cursor<'_>) -> bool
-    ensures { result ≡ goes_on cursor.now }
+    ensures { result ≡ block_goes_on cursor.now }
 {
     !cursor.is_at_sign(Sign::RightBrace)
 }
@@ -145,10 +145,10 @@ pub fn braced(alloc: Global, cursor: &mut Cursor<'_>, levels: u32) -> Result<Bra
 
 /// A block as a statement.
 #[cycle(statements)]
-#[tactic(auto, unfolding(c_descent::specs::StatementParser::block))]
+#[tactic(auto, unfolding(c_descent::specs::StatementParser::block_statement))]
 fn block(alloc: Global, cursor: &mut Cursor<'_>, levels: u32) -> Result<Stmt, Fault>
     ensures reads { Matches result cursor.new
-        (block MAX_BINARY_OPERATORS levels (statement MAX_BINARY_OPERATORS levels) cursor.old) }
+        (block_statement MAX_BINARY_OPERATORS levels (statement MAX_BINARY_OPERATORS levels) cursor.old) }
     ensures takes { TakesSome result cursor.old cursor.new }
 {
     let Braces { body, token } = braced(alloc, cursor, levels)?;

@@ -2,7 +2,7 @@
 ghost use Rattle.std.specs.Prelude.{◌≡◌, ◌≤◌, length, [], ◌↔◌, IsTrue};
 ghost use Rattle.c_token.specs.PlainText.{kinds_of};
 ghost use Rattle.c_grammar.specs.BoundedTokens.{numbered};
-ghost use Rattle.c_descent.specs.ListParser.{name_of, first_kind, is_left, is_some_sign, is_some_word, is_at_sign, is_at_word, passed, sign, word, name, number, place_or};
+ghost use Rattle.c_descent.specs.ListParser.{kind_name, first_kind, is_left, is_some_sign, is_some_word, is_at_sign, is_at_word, passed, sign_token, word_token, name_token, number_token, place_or};
 ghost use Rattle.c_parser.specs.CursorAnswers.{Matches, TakesSome};
 
 use crate::fault::Fault;
@@ -123,9 +123,9 @@ impl<'a> Cursor<'a> {
     }
 
     /// Takes this sign, and answers its number.
-    #[tactic(auto, unfolding(c_descent::specs::ListParser::sign))]
+    #[tactic(auto, unfolding(c_descent::specs::ListParser::sign_token))]
     pub fn sign(&mut self, wanted: Sign) -> Result<u32, Fault>
-        ensures reads { Matches result self.new (sign wanted self.old) }
+        ensures reads { Matches result self.new (sign_token wanted self.old) }
         ensures takes { TakesSome result self.old self.new }
     {
         let passes = self.is_at_sign(wanted);
@@ -133,9 +133,9 @@ impl<'a> Cursor<'a> {
     }
 
     /// Takes this word, and answers its number.
-    #[tactic(auto, unfolding(c_descent::specs::ListParser::word))]
+    #[tactic(auto, unfolding(c_descent::specs::ListParser::word_token))]
     pub fn word(&mut self, wanted: Word) -> Result<u32, Fault>
-        ensures reads { Matches result self.new (word wanted self.old) }
+        ensures reads { Matches result self.new (word_token wanted self.old) }
         ensures takes { TakesSome result self.old self.new }
     {
         let passes = self.is_at_word(wanted);
@@ -144,7 +144,7 @@ impl<'a> Cursor<'a> {
 
     /// The name that the first token is.
     fn first_name(&self) -> Option<Name>
-        ensures { result ≡ name_of (first_kind self.now) }
+        ensures { result ≡ kind_name (first_kind self.now) }
     {
         match self.left {
             [
@@ -159,9 +159,9 @@ impl<'a> Cursor<'a> {
     }
 
     /// Takes a name.
-    #[tactic(auto, unfolding(c_descent::specs::ListParser::name))]
+    #[tactic(auto, unfolding(c_descent::specs::ListParser::name_token))]
     pub fn name(&mut self) -> Result<Named, Fault>
-        ensures reads { Matches result self.new (name self.old) }
+        ensures reads { Matches result self.new (name_token self.old) }
         ensures takes { TakesSome result self.old self.new }
     {
         let Some(name) = self.first_name() else {
@@ -172,9 +172,9 @@ impl<'a> Cursor<'a> {
     }
 
     /// Takes a number.
-    #[tactic(auto, unfolding(c_descent::specs::ListParser::number))]
+    #[tactic(auto, unfolding(c_descent::specs::ListParser::number_token))]
     pub fn number(&mut self) -> Result<Numeral, Fault>
-        ensures reads { Matches result self.new (number self.old) }
+        ensures reads { Matches result self.new (number_token self.old) }
         ensures takes { TakesSome result self.old self.new }
     {
         match self.first_kind() {

@@ -2,7 +2,7 @@
 ghost use Rattle.std.specs.Prelude.{◌≡◌, ◌≤◌, ◌+◌, Some};
 ghost use Rattle.c_grammar.specs.Precedence.{loosest};
 ghost use Rattle.c_descent.specs.ListParser.{first_kind, after_comma, separated};
-ghost use Rattle.c_descent.specs.ExpressionParser.{operator_at, unary_of, operand_of, joined, chained, binary, expression, paren, subscript, listed, arguments, indexed, called, after_name, named, literal, input, primary, signed, unary, inside, expression_at};
+ghost use Rattle.c_descent.specs.ExpressionParser.{operator_at, unary_sign, operand_of, joined_operand, chained, binary_expression, expression, paren, subscript, argument_list, arguments, element_expression, call_expression, after_name, name_expression, literal, input, primary, signed_expression, unary_expression, levels_inside, expression_at};
 ghost use Rattle.c_parser.specs.Levels.{OpensLevel, OpensInside};
 ghost use Rattle.c_parser.specs.CursorAnswers.{Matches, TakesSome, LeavesUpTo};
 
@@ -15,11 +15,11 @@ use c_token::{Kind, Sign, Word};
 use sqlite_items::{Boxed, Items};
 use std::alloc::Global;
 
-/// How many ranks the operators of two operands have.
-const RANKS: u32 = 10;
+/// The loosest level of the operators of two operands.
+const LOOSEST: u32 = 10;
 
 /// How many levels are left when one more is opened.
-#[tactic(auto, unfolding(c_descent::specs::ExpressionParser::inside, c_descent::specs::ExpressionParser::unary))]
+#[tactic(auto, unfolding(c_descent::specs::ExpressionParser::levels_inside, c_descent::specs::ExpressionParser::unary_expression))]
 pub fn open(levels: u32) -> Result<u32, Fault>
     ensures opens { OpensLevel levels result }
     ensures inside { OpensInside MAX_BINARY_OPERATORS levels result }
@@ -44,7 +44,7 @@ fn operator_at(cursor: &Cursor<'_>, rank: u32) -> Option<Sign>
 
 /// The sign, where it is an operator of one operand.
 fn unary_of(kind: Option<Kind>) -> Option<Sign>
-    ensures { result ≡ unary_of kind }
+    ensures { result ≡ unary_sign kind }
 {
     match kind {
         Some(Kind::Sign(op)) if is_unary_operator(op) => Some(op),
@@ -93,10 +93,10 @@ fn input(cursor: &mut Cursor<'_>) -> Result<Expr, Fault>
 
 /// An operator of one operand, and the operand.
 #[cycle(expressions)]
-#[tactic(auto, unfolding(c_descent::specs::ExpressionParser::signed))]
+#[tactic(auto, unfolding(c_descent::specs::ExpressionParser::signed_expression))]
 fn signed(alloc: Global, cursor: &mut Cursor<'_>, levels: u32, op: Sign) -> Result<Expr, Fault>
     ensures reads { Matches result cursor.new
-        (signed (inside MAX_BINARY_OPERATORS levels) op cursor.old) }
+        (signed_expression (levels_inside MAX_BINARY_OPERATORS levels) op cursor.old) }
     ensures takes { TakesSome result cursor.old cursor.new }
 {
     let levels = open(levels)?;
@@ -111,7 +111,7 @@ fn signed(alloc: Global, cursor: &mut Cursor<'_>, levels: u32, op: Sign) -> Resu
 #[tactic(auto, unfolding(c_descent::specs::ExpressionParser::paren))]
 fn paren(alloc: Global, cursor: &mut Cursor<'_>, levels: u32) -> Result<Expr, Fault>
     ensures reads { Matches result cursor.new
-        (paren MAX_BINARY_OPERATORS (inside MAX_BINARY_OPERATORS levels) cursor.old) }
+        (paren MAX_BINARY_OPERATORS (levels_inside MAX_BINARY_OPERATORS levels) cursor.old) }
     ensures takes { TakesSome result cursor.old cursor.new }
 {
     let levels = open(levels)?;
@@ -127,7 +127,7 @@ fn paren(alloc: Global, cursor: &mut Cursor<'_>, levels: u32) -> Result<Expr, Fa
 #[tactic(auto, unfolding(c_descent::specs::ExpressionParser::subscript))]
 pub fn subscript(alloc: Global, cursor: &mut Cursor<'_>, levels: u32) -> Result<Bracketed, Fault>
     ensures reads { Matches result cursor.new
-        (subscript MAX_BINARY_OPERATORS (inside MAX_BINARY_OPERATORS levels) cursor.old) }
+        (subscript MAX_BINARY_OPERATORS (levels_inside MAX_BINARY_OPERATORS levels) cursor.old) }
     ensures takes { TakesSome result cursor.old cursor.new }
 {
     let levels = open(levels)?;
@@ -169,10 +169,10 @@ fn separated(alloc: Global, cursor: &mut Cursor<'_>, levels: u32) -> Result<Item
 
 /// Arguments up to `)`, which is left.
 #[cycle(expressions)]
-#[tactic(auto, unfolding(c_descent::specs::ExpressionParser::listed))]
+#[tactic(auto, unfolding(c_descent::specs::ExpressionParser::argument_list))]
 fn listed(alloc: Global, cursor: &mut Cursor<'_>, levels: u32) -> Result<Items<Expr>, Fault>
     ensures reads { Matches result cursor.new
-        (listed MAX_BINARY_OPERATORS (unary MAX_BINARY_OPERATORS levels) cursor.old) }
+        (argument_list MAX_BINARY_OPERATORS (unary_expression MAX_BINARY_OPERATORS levels) cursor.old) }
     ensures takes { LeavesUpTo result cursor.old cursor.new }
 {
     if cursor.is_at_sign(Sign::RightParenthesis) {
@@ -187,7 +187,7 @@ fn listed(alloc: Global, cursor: &mut Cursor<'_>, levels: u32) -> Result<Items<E
 #[tactic(auto, unfolding(c_descent::specs::ExpressionParser::arguments))]
 pub fn arguments(alloc: Global, cursor: &mut Cursor<'_>, levels: u32) -> Result<Items<Expr>, Fault>
     ensures reads { Matches result cursor.new
-        (arguments MAX_BINARY_OPERATORS (inside MAX_BINARY_OPERATORS levels) cursor.old) }
+        (arguments MAX_BINARY_OPERATORS (levels_inside MAX_BINARY_OPERATORS levels) cursor.old) }
     ensures takes { TakesSome result cursor.old cursor.new }
 {
     let levels = open(levels)?;
@@ -199,10 +199,10 @@ pub fn arguments(alloc: Global, cursor: &mut Cursor<'_>, levels: u32) -> Result<
 
 /// `[ index ]` after a name.
 #[cycle(expressions)]
-#[tactic(auto, unfolding(c_descent::specs::ExpressionParser::indexed))]
+#[tactic(auto, unfolding(c_descent::specs::ExpressionParser::element_expression))]
 fn indexed(alloc: Global, cursor: &mut Cursor<'_>, levels: u32, name: Named) -> Result<Expr, Fault>
     ensures reads { Matches result cursor.new
-        (indexed MAX_BINARY_OPERATORS (inside MAX_BINARY_OPERATORS levels) name cursor.old) }
+        (element_expression MAX_BINARY_OPERATORS (levels_inside MAX_BINARY_OPERATORS levels) name cursor.old) }
     ensures takes { TakesSome result cursor.old cursor.new }
 {
     let Bracketed { index, token } = subscript(alloc, cursor, levels)?;
@@ -216,10 +216,10 @@ fn indexed(alloc: Global, cursor: &mut Cursor<'_>, levels: u32, name: Named) -> 
 
 /// `( arguments )` after a name.
 #[cycle(expressions)]
-#[tactic(auto, unfolding(c_descent::specs::ExpressionParser::called))]
+#[tactic(auto, unfolding(c_descent::specs::ExpressionParser::call_expression))]
 fn called(alloc: Global, cursor: &mut Cursor<'_>, levels: u32, name: Named) -> Result<Expr, Fault>
     ensures reads { Matches result cursor.new
-        (called MAX_BINARY_OPERATORS (inside MAX_BINARY_OPERATORS levels) name cursor.old) }
+        (call_expression MAX_BINARY_OPERATORS (levels_inside MAX_BINARY_OPERATORS levels) name cursor.old) }
     ensures takes { TakesSome result cursor.old cursor.new }
 {
     let arguments = arguments(alloc, cursor, levels)?;
@@ -240,7 +240,7 @@ fn after_name(
     name: Named,
 ) -> Result<Expr, Fault>
     ensures reads { Matches result cursor.new
-        (after_name MAX_BINARY_OPERATORS (inside MAX_BINARY_OPERATORS levels) name cursor.old) }
+        (after_name MAX_BINARY_OPERATORS (levels_inside MAX_BINARY_OPERATORS levels) name cursor.old) }
     ensures takes { LeavesUpTo result cursor.old cursor.new }
 {
     if cursor.is_at_sign(Sign::LeftBracket) {
@@ -257,10 +257,10 @@ fn after_name(
 
 /// A name, with an index or arguments.
 #[cycle(expressions)]
-#[tactic(auto, unfolding(c_descent::specs::ExpressionParser::named))]
+#[tactic(auto, unfolding(c_descent::specs::ExpressionParser::name_expression))]
 fn named(alloc: Global, cursor: &mut Cursor<'_>, levels: u32) -> Result<Expr, Fault>
     ensures reads { Matches result cursor.new
-        (named MAX_BINARY_OPERATORS (inside MAX_BINARY_OPERATORS levels) cursor.old) }
+        (name_expression MAX_BINARY_OPERATORS (levels_inside MAX_BINARY_OPERATORS levels) cursor.old) }
     ensures takes { TakesSome result cursor.old cursor.new }
 {
     let name = cursor.name()?;
@@ -272,7 +272,7 @@ fn named(alloc: Global, cursor: &mut Cursor<'_>, levels: u32) -> Result<Expr, Fa
 #[tactic(auto, unfolding(c_descent::specs::ExpressionParser::primary))]
 fn primary(alloc: Global, cursor: &mut Cursor<'_>, levels: u32) -> Result<Expr, Fault>
     ensures reads { Matches result cursor.new
-        (primary MAX_BINARY_OPERATORS (inside MAX_BINARY_OPERATORS levels) cursor.old) }
+        (primary MAX_BINARY_OPERATORS (levels_inside MAX_BINARY_OPERATORS levels) cursor.old) }
     ensures takes { TakesSome result cursor.old cursor.new }
 {
     match operand_of(cursor.first_kind()) {
@@ -286,9 +286,9 @@ fn primary(alloc: Global, cursor: &mut Cursor<'_>, levels: u32) -> Result<Expr, 
 
 /// A unary expression.
 #[cycle(expressions)]
-#[tactic(auto, unfolding(c_descent::specs::ExpressionParser::unary, c_descent::specs::ExpressionParser::unary_in))]
+#[tactic(auto, unfolding(c_descent::specs::ExpressionParser::unary_expression, c_descent::specs::ExpressionParser::unary_in))]
 fn unary(alloc: Global, cursor: &mut Cursor<'_>, levels: u32) -> Result<Expr, Fault>
-    ensures reads { Matches result cursor.new (unary MAX_BINARY_OPERATORS levels cursor.old) }
+    ensures reads { Matches result cursor.new (unary_expression MAX_BINARY_OPERATORS levels cursor.old) }
     ensures takes { TakesSome result cursor.old cursor.new }
 {
     match unary_of(cursor.first_kind()) {
@@ -300,7 +300,7 @@ fn unary(alloc: Global, cursor: &mut Cursor<'_>, levels: u32) -> Result<Expr, Fa
 /// An operator at the next token, and its right operand, whose operators have at most this rank. The left operand is
 /// here already.
 #[cycle(expressions)]
-#[tactic(auto, unfolding(c_descent::specs::ExpressionParser::joined))]
+#[tactic(auto, unfolding(c_descent::specs::ExpressionParser::joined_operand))]
 fn joined(
     alloc: Global,
     cursor: &mut Cursor<'_>,
@@ -311,7 +311,7 @@ fn joined(
 ) -> Result<Grown, Fault>
     requires { rank ≤ loosest }
     ensures reads { Matches result cursor.new
-        (joined MAX_BINARY_OPERATORS (binary MAX_BINARY_OPERATORS (unary MAX_BINARY_OPERATORS levels) rank) op left
+        (joined_operand MAX_BINARY_OPERATORS (binary_expression MAX_BINARY_OPERATORS (unary_expression MAX_BINARY_OPERATORS levels) rank) op left
         cursor.old) }
     ensures takes { TakesSome result cursor.old cursor.new }
 {
@@ -345,7 +345,7 @@ fn chained(
 ) -> Result<Grown, Fault>
     requires { rank ≤ loosest }
     ensures reads { Matches result cursor.new
-        (chained MAX_BINARY_OPERATORS (binary MAX_BINARY_OPERATORS (unary MAX_BINARY_OPERATORS levels) rank) (rank + 1)
+        (chained MAX_BINARY_OPERATORS (binary_expression MAX_BINARY_OPERATORS (unary_expression MAX_BINARY_OPERATORS levels) rank) (rank + 1)
         left cursor.old) }
     ensures takes { LeavesUpTo result cursor.old cursor.new }
 {
@@ -358,7 +358,7 @@ fn chained(
 
 /// An expression whose operators have at most this rank, where so many operators stand before it in the whole one.
 #[cycle(expressions)]
-#[tactic(auto, unfolding(c_descent::specs::ExpressionParser::binary))]
+#[tactic(auto, unfolding(c_descent::specs::ExpressionParser::binary_expression))]
 fn binary(
     alloc: Global,
     cursor: &mut Cursor<'_>,
@@ -368,7 +368,7 @@ fn binary(
 ) -> Result<Grown, Fault>
     requires { rank ≤ loosest }
     ensures reads { Matches result cursor.new
-        (binary MAX_BINARY_OPERATORS (unary MAX_BINARY_OPERATORS levels) rank used cursor.old) }
+        (binary_expression MAX_BINARY_OPERATORS (unary_expression MAX_BINARY_OPERATORS levels) rank used cursor.old) }
     ensures takes { TakesSome result cursor.old cursor.new }
 {
     if rank == 0 {
@@ -386,6 +386,6 @@ pub fn expression(alloc: Global, cursor: &mut Cursor<'_>, levels: u32) -> Result
     ensures reads { Matches result cursor.new (expression_at MAX_BINARY_OPERATORS levels cursor.old) }
     ensures takes { TakesSome result cursor.old cursor.new }
 {
-    let grown = binary(alloc, cursor, levels, RANKS, 0)?;
+    let grown = binary(alloc, cursor, levels, LOOSEST, 0)?;
     Ok(grown.tree)
 }

@@ -1,8 +1,8 @@
 //! Locals and statements.
 ghost use Rattle.std.specs.Prelude.{◌≡◌};
-ghost use Rattle.c_descent.specs.ListParser.{follow, gives, sign};
-ghost use Rattle.c_descent.specs.StatementParser.{start_of, start_at, plain_of, plain_at, begins_statement, begins_simple, int_type, optional_int, unsigned_type, type_name, expression_unless, optional_value, local_inside, local, assigned, element_assigned, call, after_name, named, condition, release, check, simple_inside, simple, plain_inside, ended, empty, returned, break_statement, continue_statement, while_loop, optional_else, conditional, first_part, step_part, opening, test_part, closing, head, for_loop, entry, entries, braced, block, statement_inside, barred, statement};
-ghost use Rattle.c_parser.specs.CursorAnswers.{Matches, IsFault, TakesSome, LeavesUpTo};
+ghost use Rattle.c_descent.specs.ListParser.{follow, gives, sign_token};
+ghost use Rattle.c_descent.specs.StatementParser.{statement_start, start_at, plain_of, plain_at, begins_statement, begins_simple, int_type, optional_int, unsigned_type, type_name, expression_unless, optional_value, local_inside, local_statement, assignment_rest, element_assigned, call_statement, after_statement_name, name_statement, parenthesised_test, release, check, simple_inside, simple, plain_inside, ended, empty, returned, break_statement, continue_statement, while_loop, optional_else, conditional, first_part, step_part, opening, test_part, closing, head, for_loop, entry, entries, braced, block_statement, statement_inside, barred, statement};
+ghost use Rattle.c_parser.specs.CursorAnswers.{Matches, StopsWith, TakesSome, LeavesUpTo};
 
 use crate::cursor::Cursor;
 use crate::expression::{arguments, expression, open, subscript};
@@ -16,7 +16,7 @@ use std::alloc::Global;
 
 /// What a token begins in a block.
 fn start_of(kind: Option<Kind>) -> Start
-    ensures { result ≡ start_of kind }
+    ensures { result ≡ statement_start kind }
 {
     match kind {
         Some(Kind::Name(_)) => Start::Plain,
@@ -193,9 +193,9 @@ fn local_inside(alloc: Global, cursor: &mut Cursor<'_>, levels: u32) -> Result<S
 }
 
 /// A local, which is a statement of its own.
-#[tactic(auto, unfolding(c_descent::specs::StatementParser::local))]
+#[tactic(auto, unfolding(c_descent::specs::StatementParser::local_statement))]
 fn local(alloc: Global, cursor: &mut Cursor<'_>, levels: u32) -> Result<Stmt, Fault>
-    ensures reads { Matches result cursor.new (local MAX_BINARY_OPERATORS levels cursor.old) }
+    ensures reads { Matches result cursor.new (local_statement MAX_BINARY_OPERATORS levels cursor.old) }
     ensures takes { TakesSome result cursor.old cursor.new }
 {
     let levels = open(levels)?;
@@ -203,7 +203,7 @@ fn local(alloc: Global, cursor: &mut Cursor<'_>, levels: u32) -> Result<Stmt, Fa
 }
 
 /// `= value` after what is assigned to.
-#[tactic(auto, unfolding(c_descent::specs::StatementParser::assigned))]
+#[tactic(auto, unfolding(c_descent::specs::StatementParser::assignment_rest))]
 fn assigned(
     alloc: Global,
     cursor: &mut Cursor<'_>,
@@ -212,7 +212,7 @@ fn assigned(
     index: Option<Expr>,
 ) -> Result<Stmt, Fault>
     ensures reads { Matches result cursor.new
-        (assigned MAX_BINARY_OPERATORS levels found index cursor.old) }
+        (assignment_rest MAX_BINARY_OPERATORS levels found index cursor.old) }
     ensures takes { TakesSome result cursor.old cursor.new }
 {
     cursor.sign(Sign::Assign)?;
@@ -242,9 +242,9 @@ fn element_assigned(
 }
 
 /// `( arguments )` after a name.
-#[tactic(auto, unfolding(c_descent::specs::StatementParser::call))]
+#[tactic(auto, unfolding(c_descent::specs::StatementParser::call_statement))]
 fn call(alloc: Global, cursor: &mut Cursor<'_>, levels: u32, found: Named) -> Result<Stmt, Fault>
-    ensures reads { Matches result cursor.new (call MAX_BINARY_OPERATORS levels found cursor.old) }
+    ensures reads { Matches result cursor.new (call_statement MAX_BINARY_OPERATORS levels found cursor.old) }
     ensures takes { TakesSome result cursor.old cursor.new }
 {
     let arguments = arguments(alloc, cursor, levels)?;
@@ -256,7 +256,7 @@ fn call(alloc: Global, cursor: &mut Cursor<'_>, levels: u32, found: Named) -> Re
 }
 
 /// What stands after the name that a statement begins with.
-#[tactic(auto, unfolding(c_descent::specs::StatementParser::after_name))]
+#[tactic(auto, unfolding(c_descent::specs::StatementParser::after_statement_name))]
 fn after_name(
     alloc: Global,
     cursor: &mut Cursor<'_>,
@@ -264,7 +264,7 @@ fn after_name(
     found: Named,
 ) -> Result<Stmt, Fault>
     ensures reads { Matches result cursor.new
-        (after_name MAX_BINARY_OPERATORS levels found cursor.old) }
+        (after_statement_name MAX_BINARY_OPERATORS levels found cursor.old) }
     ensures takes { TakesSome result cursor.old cursor.new }
 {
     if cursor.is_at_sign(Sign::LeftBracket) {
@@ -277,9 +277,9 @@ fn after_name(
 }
 
 /// An assignment or a call.
-#[tactic(auto, unfolding(c_descent::specs::StatementParser::named))]
+#[tactic(auto, unfolding(c_descent::specs::StatementParser::name_statement))]
 fn named(alloc: Global, cursor: &mut Cursor<'_>, levels: u32) -> Result<Stmt, Fault>
-    ensures reads { Matches result cursor.new (named MAX_BINARY_OPERATORS levels cursor.old) }
+    ensures reads { Matches result cursor.new (name_statement MAX_BINARY_OPERATORS levels cursor.old) }
     ensures takes { TakesSome result cursor.old cursor.new }
 {
     let found = cursor.name()?;
@@ -287,9 +287,9 @@ fn named(alloc: Global, cursor: &mut Cursor<'_>, levels: u32) -> Result<Stmt, Fa
 }
 
 /// `( value )`
-#[tactic(auto, unfolding(c_descent::specs::StatementParser::condition))]
+#[tactic(auto, unfolding(c_descent::specs::StatementParser::parenthesised_test))]
 pub fn condition(alloc: Global, cursor: &mut Cursor<'_>, levels: u32) -> Result<Expr, Fault>
-    ensures reads { Matches result cursor.new (condition MAX_BINARY_OPERATORS levels cursor.old) }
+    ensures reads { Matches result cursor.new (parenthesised_test MAX_BINARY_OPERATORS levels cursor.old) }
     ensures takes { TakesSome result cursor.old cursor.new }
 {
     cursor.sign(Sign::LeftParenthesis)?;
@@ -423,7 +423,7 @@ pub fn plain_ended(alloc: Global, cursor: &mut Cursor<'_>, levels: u32) -> Resul
 #[tactic(auto, unfolding(c_descent::specs::StatementParser::ended))]
 pub fn local_ended(alloc: Global, cursor: &mut Cursor<'_>, levels: u32) -> Result<Stmt, Fault>
     ensures reads { Matches result cursor.new
-        (ended (local MAX_BINARY_OPERATORS levels) cursor.old) }
+        (ended (local_statement MAX_BINARY_OPERATORS levels) cursor.old) }
     ensures takes { TakesSome result cursor.old cursor.new }
 {
     let tree = local(alloc, cursor, levels)?;
@@ -529,7 +529,7 @@ pub fn head(alloc: Global, cursor: &mut Cursor<'_>, levels: u32) -> Result<LoopH
 /// Why no statement is read where no level is left: it would open one too many.
 #[tactic(auto, unfolding(c_descent::specs::StatementParser::barred))]
 pub fn barred(cursor: &Cursor<'_>) -> Fault
-    ensures { IsFault result cursor.now (barred cursor.now) }
+    ensures { StopsWith result cursor.now (barred cursor.now) }
 {
     if begins_statement(start_at(cursor)) {
         Fault::Deep

@@ -11,11 +11,10 @@ use Rattle.c_descent.specs.DescentLaws.{parsed}
 use Rattle.c_descent.proofs.Answered.{reads, refused_expected, refused_deep, one_program}
 use Rattle.c_reader.specs.declared.error.SyntaxError.{SyntaxError}
 use Rattle.c_reader.specs.declared.error.SyntaxError.TheVariants as error
-use Rattle.c_reader.specs.ReaderAnswers.{Answers}
-use Rattle.c_reader.specs.Refusals.{IsRefusedAs}
-use Rattle.c_reader.specs.SourceText.{OneProgramOfText}
+use Rattle.c_reader.specs.ReaderAnswers.{AnswersText}
+use Rattle.c_reader.specs.SourceText.{IsRefusedAs, OneProgramOfText}
 
-pub answered : (kinds : List Kind) (r : Result Program SyntaxError) → Answers r (length kinds) (parsed kinds)
+pub answered : (kinds : List Kind) (r : Result Program SyntaxError) → AnswersText r (length kinds) (parsed kinds)
     → IfOk r (AreProgram kinds) × IfErr r (IsRefusedAs kinds)
 answered kinds (Ok p) e = (reads kinds p e, tt)
 answered kinds (Err (error.Expected k)) e = (tt, subst (λ k. IsExpectedAt kinds k × IsShallowBefore kinds k) (sym e.2) (refused_expected kinds e.0 e.1))

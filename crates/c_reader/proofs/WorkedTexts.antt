@@ -17,14 +17,13 @@ use Rattle.c_grammar.specs.declared.item.Program.{Program}
 use Rattle.c_grammar.specs.BoundedTokens.{numbered}
 use Rattle.c_grammar.specs.TokenPrograms.{HasProgram, IsExpectedAt, IsDeepAt, IsShallowBefore}
 use Rattle.c_grammar.proofs.PlaceLaws.{expected-one, expected-deep}
-use Rattle.c_descent.specs.ListParser.{sign, word, name, number, many, all, is_at_sign, is_at_word}
+use Rattle.c_descent.specs.ListParser.{sign_token, word_token, name_token, number_token, many, all, is_at_sign, is_at_word}
 use Rattle.c_descent.specs.StatementParser as st
 use Rattle.c_descent.specs.ProgramParser as p
 use Rattle.c_descent.proofs.Answered.{reads, refused_expected}
 use Rattle.c_descent.proofs.WorkedPlaces.{deep_text, deep_at_71}
 use Rattle.c_reader.specs.declared.error.SyntaxError.TheVariants.{Expected, Deep, OutOfMemory}
-use Rattle.c_reader.specs.Refusals.{IsRefusedAs}
-use Rattle.c_reader.specs.SourceText.{HasTokens, HasTokenFault, HasSyntaxFault}
+use Rattle.c_reader.specs.SourceText.{IsRefusedAs, HasTokens, HasTokenFault, HasSyntaxFault}
 use Rattle.c_reader.proofs.Answering.{one_of_text}
 
 token : ℕ → Kind → Token
@@ -35,7 +34,7 @@ object : ℕ → Program
 object at = record { items = item.Object storage.Verified false (codes "x") None at ∷ [] }
 
 object_text : HasProgram (codes "int x;") (object 1)
-unfolding object token tokens_of tokens_from front_at front_then put_before token_of_len judged p.program p.items p.item_inside p.heading_at p.typed p.typed_rest p.object_rest p.optional_length st.type_name st.int_type many all sign word name number is_at_sign is_at_word
+unfolding object token tokens_of tokens_from front_at front_then put_before token_of_len judged p.program p.items p.item_inside p.heading_at p.typed_item p.typed_rest p.object_rest p.optional_length st.type_name st.int_type many all sign_token word_token name_token number_token is_at_sign is_at_word
 object_text = record {
   tokens = token 0 (Word w.Int) ∷ token 4 (Name (codes "x")) ∷ token 5 (Sign s.Semicolon) ∷ [];
   lexed = refl;
@@ -59,7 +58,7 @@ abbrev unnamed : List Kind
 unnamed = Word w.Int ∷ Sign s.Semicolon ∷ []
 
 unnamed_at : IsExpectedAt unnamed 1 × IsShallowBefore unnamed 1
-unfolding p.program p.items p.item_inside p.heading_at p.typed st.type_name st.int_type many all sign word name is_at_sign is_at_word
+unfolding p.program p.items p.item_inside p.heading_at p.typed_item st.type_name st.int_type many all sign_token word_token name_token is_at_sign is_at_word
 unnamed_at = refused_expected unnamed (numbered 1 (Sign s.Semicolon ∷ [])) refl
 
 unnamed_text : HasSyntaxFault (codes "int ;") (Expected 1)

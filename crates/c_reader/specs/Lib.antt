@@ -1,3 +1,2 @@
 pub mod ReaderAnswers
-pub mod Refusals
 pub mod SourceText

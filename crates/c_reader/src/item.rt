@@ -1,7 +1,7 @@
 //! Items, and whole programs.
 ghost use Rattle.std.specs.Prelude.{◌≡◌, [], OnOk};
 ghost use Rattle.c_descent.specs.StatementParser.{statement};
-ghost use Rattle.c_descent.specs.ProgramParser.{heading_of, heading_at, optional_length, object_rest, object, value_with, negative_value, value, one_value, braced_values, values, constant_rest, constant, no_parameters, untrusted, parameter, void_list, listed, parameters, function_rest, void_function, storage_of, result_of, typed_rest, typed, declared, private_item, item_inside, items, program};
+ghost use Rattle.c_descent.specs.ProgramParser.{heading_of, heading_at, optional_length, object_rest, object, value_with, negative_value, value, one_value, braced_values, values, constant_rest, constant, no_parameters, untrusted, one_parameter, void_list, parameter_list, parameters, function_rest, void_function, storage_of, result_kind, typed_rest, typed_item, declared, private_item, item_inside, items, program};
 ghost use Rattle.c_parser.specs.CursorAnswers.{Matches, TakesSome, LeavesUpTo};
 
 use crate::list::{Part, separated};
@@ -238,9 +238,9 @@ fn untrusted(cursor: &mut Cursor<'_>) -> Result<Item, Fault>
 
 /// A parameter.
 impl Part for Parameter {
-    ghost parser = { parameter };
+    ghost parser = { one_parameter };
 
-    #[tactic(auto, unfolding(c_descent::specs::ProgramParser::parameter))]
+    #[tactic(auto, unfolding(c_descent::specs::ProgramParser::one_parameter))]
     fn read(cursor: &mut Cursor<'_>) -> Result<Parameter, Fault> {
         let unsigned = type_name(cursor)?;
         let found = cursor.name()?;
@@ -263,9 +263,9 @@ fn void_list(alloc: Global, cursor: &mut Cursor<'_>) -> Result<Items<Parameter>,
 }
 
 /// Parameters, `void` or nothing, up to `)`, which is left.
-#[tactic(auto, unfolding(c_descent::specs::ProgramParser::listed))]
+#[tactic(auto, unfolding(c_descent::specs::ProgramParser::parameter_list))]
 fn listed(alloc: Global, cursor: &mut Cursor<'_>) -> Result<Items<Parameter>, Fault>
-    ensures reads { Matches result cursor.new (listed cursor.old) }
+    ensures reads { Matches result cursor.new (parameter_list cursor.old) }
     ensures takes { LeavesUpTo result cursor.old cursor.new }
 {
     if cursor.is_at_sign(Sign::RightParenthesis) {
@@ -339,7 +339,7 @@ fn storage_of(private: bool) -> Storage
 
 /// What a function answers whose type is no `void`.
 fn result_of(unsigned: bool) -> Kind3
-    ensures { result ≡ result_of unsigned }
+    ensures { result ≡ result_kind unsigned }
 {
     if unsigned {
         Kind3::Unsigned
@@ -370,10 +370,10 @@ fn typed_rest(
 }
 
 /// A type, and the function or the object after it.
-#[tactic(auto, unfolding(c_descent::specs::ProgramParser::typed))]
+#[tactic(auto, unfolding(c_descent::specs::ProgramParser::typed_item))]
 fn typed(alloc: Global, cursor: &mut Cursor<'_>, private: bool) -> Result<Item, Fault>
     ensures reads { Matches result cursor.new
-        (typed MAX_BINARY_OPERATORS MAX_NESTING private cursor.old) }
+        (typed_item MAX_BINARY_OPERATORS MAX_NESTING private cursor.old) }
     ensures takes { TakesSome result cursor.old cursor.new }
 {
     let unsigned = type_name(cursor)?;

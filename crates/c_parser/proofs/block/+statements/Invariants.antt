@@ -1,7 +1,7 @@
 -- The levels that are left bound the depth: within one level each function calls those of lower numbers.
 use Rattle.std.proofs.Common.{◌≤◌, ◌+◌, ◌*◌, length}
 use Rattle.aegis_num.specs.declared.limits.TheConstants.{MAX_BINARY_OPERATORS}
-use Rattle.c_descent.specs.StatementParser.{goes_on, entry, entries, statement}
+use Rattle.c_descent.specs.StatementParser.{block_goes_on, entry, entries, statement}
 use Rattle.c_parser.proofs.Loops.{Grows}
 use Rattle.c_parser.proofs.block.+statements.Given as goal
 
@@ -39,7 +39,7 @@ decreases-for_loop l = 16 * l.levels + 9
 abbrev pub invariant-entries-each : goal.invariant-entries-each
 invariant-entries-each l = record {
   grows : Grows (entries MAX_BINARY_OPERATORS l.levels (statement MAX_BINARY_OPERATORS l.levels) l.fn.cursor)
-      goes_on (entry MAX_BINARY_OPERATORS l.levels (statement MAX_BINARY_OPERATORS l.levels)) l.trees l.cursor;
+      block_goes_on (entry MAX_BINARY_OPERATORS l.levels (statement MAX_BINARY_OPERATORS l.levels)) l.trees l.cursor;
   fits : length l.cursor ≤ length l.fn.cursor;
 }
 

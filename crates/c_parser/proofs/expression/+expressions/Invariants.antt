@@ -3,7 +3,7 @@ use Rattle.std.proofs.Common.{◌≤◌, ◌+◌, ◌*◌, ◌<◌, length}
 use Rattle.aegis_num.specs.declared.limits.TheConstants.{MAX_BINARY_OPERATORS}
 use Rattle.c_token.specs.declared.signs.Sign.TheVariants.{Comma}
 use Rattle.c_descent.specs.ListParser.{is_at_sign, separated, after_comma}
-use Rattle.c_descent.specs.ExpressionParser.{chained, binary, unary, expression_at}
+use Rattle.c_descent.specs.ExpressionParser.{chained, binary_expression, unary_expression, expression_at}
 use Rattle.c_parser.proofs.Loops.{Grows, Chains}
 use Rattle.c_parser.proofs.expression.+expressions.Given as goal
 
@@ -62,9 +62,9 @@ decreases-after_comma l = 64 * l.levels + 56
 abbrev pub invariant-chained-each : goal.invariant-chained-each
 invariant-chained-each l = record {
   chains : Chains
-      (chained MAX_BINARY_OPERATORS (binary MAX_BINARY_OPERATORS (unary MAX_BINARY_OPERATORS l.levels) l.rank) (l.rank + 1)
+      (chained MAX_BINARY_OPERATORS (binary_expression MAX_BINARY_OPERATORS (unary_expression MAX_BINARY_OPERATORS l.levels) l.rank) (l.rank + 1)
       l.initial.left l.initial.cursor)
-      MAX_BINARY_OPERATORS (binary MAX_BINARY_OPERATORS (unary MAX_BINARY_OPERATORS l.levels) l.rank) (l.rank + 1) l.left l.cursor;
+      MAX_BINARY_OPERATORS (binary_expression MAX_BINARY_OPERATORS (unary_expression MAX_BINARY_OPERATORS l.levels) l.rank) (l.rank + 1) l.left l.cursor;
   fits : length l.cursor ≤ length l.initial.cursor;
 }
 
