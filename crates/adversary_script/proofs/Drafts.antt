@@ -13,7 +13,7 @@ use Rattle.adversary_script.specs.declared.change.Change.{Change}
 use Rattle.adversary_script.specs.declared.latest.Latest.{Latest}
 use Rattle.adversary_script.specs.declared.fault.Fault.{Fault}
 use Rattle.adversary_script.specs.declared.fault.Fault.TheVariants.{Range, Order, TooMany}
-use Rattle.adversary_script.specs.ScriptRules.{is_in_range, may_precede, bytes_written, all_bytes_written, are_in_order}
+use Rattle.adversary_script.specs.ScriptRules.{is_in_range, may_precede, bytes_written, all_bytes_written, are_in_order, KeepsRules}
 use Rattle.adversary_script.specs.ScriptGrammar.{is_in_order, has_room, ruled}
 use Rattle.adversary_script.specs.LatestMoments.{reaches, allows, latest_with, IsDraft}
 
@@ -60,23 +60,31 @@ passes true false room same = cc
 passes true true false same = cc
 passes true true true same = (refl, refl, refl)
 
-pub IsDraft-push : (changes : List Change) (change : Change) (latest : Latest) (bytes : ℕ) → IsDraft changes latest bytes → ruled changes change ≡ Ok tt
-    → IsDraft (changes ++ change ∷ []) (latest_with latest change.when) (bytes + bytes_written change.what)
+-- the changes and one more keep the rules
+pub KeepsRules-push : (changes : List Change) (change : Change) → KeepsRules changes → ruled changes change ≡ Ok tt → KeepsRules (changes ++ change ∷ [])
 unfolding ruled
-IsDraft-push changes change latest bytes draft keeps =
+KeepsRules-push changes change rules keeps =
     let tests = passes (is_in_range change.what) (is_in_order changes change) (has_room changes change) keeps in
     let room = and_parts (ltb (length changes) MAX_CHANGES) (leb (all_bytes_written changes + bytes_written change.what) MAX_CHANGE_BYTES) tests.2 in
     let count : length changes < MAX_CHANGES = ltb-true (length changes) MAX_CHANGES room.0 in
     let total : all_bytes_written changes + bytes_written change.what ≤ MAX_CHANGE_BYTES = leb-true (all_bytes_written changes + bytes_written change.what) MAX_CHANGE_BYTES room.1 in
     let sum = sum_by_push (λ (change : Change). bytes_written change.what) changes change in
+    record {
+      range = list_all-append (λ change. is_in_range change.what) changes (change ∷ []) ∙ and_from _ _ rules.range (and_from _ _ tests.0 refl);
+      order = are_in_order-push changes change rules.order tests.1;
+      count = omega (arith, length-append changes (change ∷ []), count);
+      bytes = omega (arith, sum, total);
+    }
+
+pub IsDraft-push : (changes : List Change) (change : Change) (latest : Latest) (bytes : ℕ) → IsDraft changes latest bytes → ruled changes change ≡ Ok tt
+    → IsDraft (changes ++ change ∷ []) (latest_with latest change.when) (bytes + bytes_written change.what)
+unfolding ruled
+IsDraft-push changes change latest bytes draft keeps =
+    let tests = passes (is_in_range change.what) (is_in_order changes change) (has_room changes change) keeps in
+    let sum = sum_by_push (λ (change : Change). bytes_written change.what) changes change in
     let allowed : allows latest change.when ≡ true = sym (draft.order change.when) ∙ tests.1 in
     record {
-      rules = record {
-        range = list_all-append (λ change. is_in_range change.what) changes (change ∷ []) ∙ and_from _ _ draft.rules.range (and_from _ _ tests.0 refl);
-        order = are_in_order-push changes change draft.rules.order tests.1;
-        count = omega (arith, length-append changes (change ∷ []), count);
-        bytes = omega (arith, sum, total);
-      };
+      rules = KeepsRules-push changes change draft.rules keeps;
       order = λ when. list_all-append (λ earlier. may_precede earlier.when when) changes (change ∷ [])
           ∙ ap (λ (b : Bool). list_all (λ earlier. may_precede earlier.when when) changes && b) (and-true (may_precede change.when when))
           ∙ ap (λ (b : Bool). b && may_precede change.when when) (draft.order when)

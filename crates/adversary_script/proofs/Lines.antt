@@ -19,7 +19,7 @@ abbrev is_feed : ℕ → Bool
 is_feed b = eqb b 10
 
 -- a part before another ends at a line feed
-lines_of_parts-more : (line : List ℕ) (parts : List (List ℕ)) → 0 < length parts → lines_of_parts (line ∷ parts) ≡ strip_carriage_return line ∷ lines_of_parts parts
+pub lines_of_parts-more : (line : List ℕ) (parts : List (List ℕ)) → 0 < length parts → lines_of_parts (line ∷ parts) ≡ strip_carriage_return line ∷ lines_of_parts parts
 lines_of_parts-more line [] some = absurd (omega arith)
 lines_of_parts-more line (part ∷ parts) some = refl
 

@@ -4,3 +4,4 @@ pub mod LineForms
 pub mod ScriptGrammar
 pub mod FormMeanings
 pub mod LatestMoments
+pub mod ScriptTexts

@@ -9,6 +9,7 @@ mod fault;
 mod fields;
 mod form;
 mod latest;
+mod laws;
 mod reading;
 mod script;
 mod value;
@@ -16,6 +17,7 @@ mod value;
 pub use bytes::Bytes;
 pub use change::{Change, Target, What, When};
 pub use error::ScriptError;
+pub use laws::texts_keep_rules;
 pub use reading::read_script;
 pub use script::{Changes, Script};
 

@@ -16,3 +16,5 @@ pub mod MoreLemmas
 mod Examples
 mod Worked
 pub mod BusLemmas
+pub mod CollisionLemmas
+pub mod StretchLemmas

@@ -2,6 +2,7 @@ pub mod AnsweredReads
 pub mod BlockPlaces
 pub mod Boundaries
 pub mod BusCalls
+pub mod Collisions
 pub mod Entering
 pub mod Epochs
 pub mod ExchangedWords
@@ -16,4 +17,5 @@ pub mod PlainInvariant
 pub mod PlainValues
 pub mod Residency
 pub mod StaticBlocks
+pub mod SuspendedStretches
 pub mod WriteBacks

@@ -13,6 +13,8 @@ ghost use Rattle.off_chip.specs.ExpectedDigests.{DigestsInOrder};
 ghost use Rattle.off_chip.specs.Epochs.{EpochsInOrder};
 ghost use Rattle.off_chip.specs.OneEventMore.{OneEventMore};
 ghost use Rattle.off_chip.specs.HonestMemory.{PlainIsHonest};
+ghost use Rattle.off_chip.specs.Collisions.{CollisionsNameTwo};
+ghost use Rattle.off_chip.specs.SuspendedStretches.{StretchesAreOne};
 
 use crate::bus::OffChip;
 use crate::plain::PlainDram;
@@ -78,4 +80,14 @@ pub fn same_plain_memory()
     ensures statics { (a b : Plain) → ⟦<PlainDram as OffChip>⟧.same_memory a b → a.statics ≡ b.statics }
     ensures holds { (a b : Plain) → a.layout ≡ b.layout → a.statics ≡ b.statics
         → ⟦<PlainDram as OffChip>⟧.same_memory a b }
+{}
+
+/// A digest collision names two events, and lists that are the same multiset have one sum.
+pub fn collisions_name_two()
+    ensures law { CollisionsNameTwo }
+{}
+
+/// The events between a suspension and its end.
+pub fn stretches_are_one()
+    ensures law { StretchesAreOne }
 {}
