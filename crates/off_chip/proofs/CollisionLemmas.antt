@@ -85,8 +85,7 @@ same-sums value (first ∷ entries) others same =
     } in
     let ih = same-sums value entries (at.before ++ at.rest) left in
     let long : length others ≡ length (at.before ++ first ∷ at.rest) = ap (λ (xs : List LogEntry). length xs) at.parts in
-    let total : sum_by value others ≡ sum_by value (at.before ++ first ∷ at.rest) = ap (λ (xs : List LogEntry). sum_by value xs) at.parts in
-    (
+    let total : sum_by value others ≡ sum_by value (at.before ++ first ∷ at.rest) = ap (λ (xs : List LogEntry). sum_by value xs) at.parts in (
       omega (arith, ih.0, long, length-append at.before (first ∷ at.rest), length-append at.before at.rest),
       omega (arith, ih.1, total, sum_by-cons value first entries, sum_by-append value at.before (first ∷ at.rest), sum_by-cons value first at.rest, sum_by-append value at.before at.rest),
     )

@@ -145,8 +145,7 @@ with_statics-holds layout statics memory long size (suc count) few =
     let within = (place-within layout (static_place layout count) has).1 in
     let wide = length-stored (static_block statics count) (whole-static statics count (static_blocks layout) long (omega (arith, few))) in
     let more : with_statics layout statics (suc count) memory ≡ put start (stored (static_block statics count)) so_far =
-    ap (λ (k : ℕ). with_statics layout statics k memory) (sym (add-one count)) ∙ with_statics-more layout statics count memory in
-    (
+    ap (λ (k : ℕ). with_statics layout statics k memory) (sym (add-one count)) ∙ with_statics-more layout statics count memory in (
       ap (λ (xs : List ℕ). length xs) more ∙ length-put start (stored (static_block statics count)) so_far (omega (arith, within, wide, ih.0)) ∙ ih.0,
       λ n below.
           ap (λ (xs : List ℕ). bytes_at (start_of_place layout (static_place layout n)) STORED_BLOCK_BYTES xs) more
@@ -169,10 +168,9 @@ loaded-holds : (layout : Layout) (statics : List ℕ) → length statics ≡ BLO
 loaded-holds layout statics long =
     let zeros = replicate (size_of layout) 0 in
     let placed = with_statics-holds layout statics zeros long (length-replicate (size_of layout) 0) (static_blocks layout) (omega arith) in
-    let whole = with_statics layout statics (static_blocks layout) zeros in
-    (
+    let whole = with_statics layout statics (static_blocks layout) zeros in (
       ap (λ (xs : List ℕ). length xs) (loaded-zeros layout statics)
-      ∙ length-put UNTRUSTED_START (to_be_bytes w32 RESUME_WORD) whole (omega (arith, placed.0)) ∙ placed.0,
+          ∙ length-put UNTRUSTED_START (to_be_bytes w32 RESUME_WORD) whole (omega (arith, placed.0)) ∙ placed.0,
       λ n below.
           ap (λ (xs : List ℕ). bytes_at (start_of_place layout (static_place layout n)) STORED_BLOCK_BYTES xs) (loaded-zeros layout statics)
           ∙ below-blocks layout (static_place layout n) UNTRUSTED_START (to_be_bytes w32 RESUME_WORD) whole (static-place layout n below) (lit≤ tt) placed.0
@@ -224,18 +222,17 @@ all-holds : (layout : Layout) (place : Place) (memory : List ℕ) → HasPlace l
     → (older : History) → ((before : List Event) (event : Event) (rest : List Event) → in_order older ≡ before ++ event ∷ rest → IsFit layout event)
     → (length (after_events layout (in_order older) memory) ≡ size_of layout)
     × (bytes_at (start_of_place layout place) STORED_BLOCK_BYTES (after_events layout (in_order older) memory)
-        ≡ there (last_write place older) (bytes_at (start_of_place layout place) STORED_BLOCK_BYTES memory))
+    ≡ there (last_write place older) (bytes_at (start_of_place layout place) STORED_BLOCK_BYTES memory))
 all-holds layout place memory has size no_event fits = (size, refl)
 all-holds layout place memory has size (event ◂ older) fits =
     let ih = all-holds layout place memory has size older
     (λ before earlier rest same. fits before earlier (rest ++ event ∷ []) (ap (λ (xs : List Event). xs ++ event ∷ []) same ∙ append_assoc before (earlier ∷ rest) (event ∷ []))) in
     let so_far = after_events layout (in_order older) memory in
     let fit = fits (in_order older) event [] refl in
-    let more : after_events layout (in_order (event ◂ older)) memory ≡ after_event layout event so_far = after_events-more layout (in_order older) event memory in
-    (
+    let more : after_events layout (in_order (event ◂ older)) memory ≡ after_event layout event so_far = after_events-more layout (in_order older) event memory in (
       ap (λ (xs : List ℕ). length xs) more ∙ length-after layout event so_far fit ih.0,
       ap (λ (xs : List ℕ). bytes_at (start_of_place layout place) STORED_BLOCK_BYTES xs) more
-      ∙ after-holds layout place event so_far (bytes_at (start_of_place layout place) STORED_BLOCK_BYTES memory) (last_write place older) has fit ih.0 ih.1,
+          ∙ after-holds layout place event so_far (bytes_at (start_of_place layout place) STORED_BLOCK_BYTES memory) (last_write place older) has fit ih.0 ih.1,
     )
 
 -- ---- block reads of a plain memory
@@ -254,9 +251,9 @@ read-holds layout statics before place block rest plain =
     let e : in_order (history before) ≡ before = in_order-history before in
     let all = all-holds layout place (loaded layout statics) has (loaded-holds layout statics plain.long).0 (history before)
     (λ front event later same.
-        let parts : before ++ BlockRead place block ∷ rest ≡ front ++ event ∷ (later ++ BlockRead place block ∷ rest) =
-        ap (λ (xs : List Event). xs ++ BlockRead place block ∷ rest) (sym e ∙ same) ∙ append_assoc front (event ∷ later) (BlockRead place block ∷ rest) in
-        (plain.inside.each front event (later ++ BlockRead place block ∷ rest) parts, plain.whole.each front event (later ++ BlockRead place block ∷ rest) parts)) in
+    let parts : before ++ BlockRead place block ∷ rest ≡ front ++ event ∷ (later ++ BlockRead place block ∷ rest) =
+    ap (λ (xs : List Event). xs ++ BlockRead place block ∷ rest) (sym e ∙ same) ∙ append_assoc front (event ∷ later) (BlockRead place block ∷ rest) in
+    (plain.inside.each front event (later ++ BlockRead place block ∷ rest) parts, plain.whole.each front event (later ++ BlockRead place block ∷ rest) parts)) in
     answered-at layout before (BlockRead place block) rest (loaded layout statics) plain.answered
     ∙ ap (λ (t : List Event). bytes_at (start_of_place layout place) STORED_BLOCK_BYTES (after_events layout t (loaded layout statics))) (sym e)
     ∙ all.1

@@ -18,3 +18,4 @@ mod Worked
 pub mod BusLemmas
 pub mod CollisionLemmas
 pub mod StretchLemmas
+mod Pins

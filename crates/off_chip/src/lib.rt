@@ -14,8 +14,9 @@ mod trace;
 pub use bus::OffChip;
 pub use event::{Event, Mark, Who};
 pub use laws::{
-    boundaries_in_order, collisions_name_two, digests_in_order, epochs_in_order, faithful_in_order, histories_in_order,
-    one_event_more, plain_is_honest, residency_in_order, same_plain_memory, statics_in_place, stretches_are_one, told_layouts, writes_in_order,
+    boundaries_in_order, collisions_name_two, digests_in_order, epochs_in_order, faithful_in_order,
+    histories_in_order, one_event_more, plain_is_honest, residency_in_order, same_plain_memory,
+    statics_in_place, stretches_are_one, told_layouts, writes_in_order,
 };
 pub use loading::{RESUME_WORD, load};
 pub use plain::PlainDram;
