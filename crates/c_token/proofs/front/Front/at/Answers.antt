@@ -1,4 +1,4 @@
-use Rattle.std.proofs.Common.{◌≡◌, sym, ap, subst, ◌∙◌, false, get_or, Ok, refl}
+use Rattle.std.proofs.Common.{◌≡◌, sym, ap, ◌∙◌, false, get_or, Ok, refl}
 use Rattle.c_token.specs.TokenSpelling.{is_token}
 use Rattle.c_token.specs.TextTokens.{is_blank, begins_with, longest, gap, token_of_len, front_at}
 use Rattle.c_token.proofs.Cases.{begins_with-first, front_is_blank, front_is_block, front_is_line, front_is_token}

@@ -1,5 +1,4 @@
-use Rattle.std.proofs.Common.{take, refl, sym, ap, ◌∙◌, length, arith}
-use Rattle.std.proofs.lemmas.List.{length-take-le}
+use Rattle.std.proofs.Common.{sym, ◌∙◌}
 use Rattle.c_token.proofs.Names.{is_word_front, is_name_front, is_long_name}
 use Rattle.c_token.proofs.front.Front.name.Goals as goal
 
