@@ -1,4 +1,4 @@
--- Reading lists behind their ends.
+-- Reading lists past their ends.
 use Rattle.std.proofs.Common.{◌≡◌, ℕ, zero, suc, ◌<◌, List, [], ◌∷◌, ◌++◌, length, slice_index, slice_index_or, slice_set, cond, ◌==◌, ◌&&◌, Bool, true, false, inl, inr, sym, ◌∙◌, ap, Some, None, arith, refl}
 use Rattle.std.proofs.lemmas.Bool.{cases_eq}
 use Rattle.std.proofs.lemmas.Bool.Decides.{nat_tests}
@@ -80,6 +80,6 @@ pub ruleset lookups = (slice_index-none, slice_index-some, get_or-none, get_or-s
 
 pub ruleset growths = (slice_index-zero, memory_of-empty)
 
--- a state with a memory that has the same words
+-- a state with another memory of equal words
 pub with-memory : (m : ℕ → ℕ → ℕ) (s : State) → ((y j : ℕ) → m y j ≡ s.memory y j) → record s { memory = m } ≡ s
 with-memory m s h = ap (λ memory. record s { memory = memory }) (λ k y j. h y j k)

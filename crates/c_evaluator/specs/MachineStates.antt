@@ -1,4 +1,4 @@
--- What the evaluator keeps, as a state of the meaning in which nothing is noted.
+-- Promise: what the evaluator keeps, as a state of the meaning in which nothing is noted.
 use Rattle.std.specs.Prelude.{ℕ, ◌≡◌, false, List, [], length, slice_index, slice_index_or, drop, cond, ◌==◌, Ok, Err, IsErr}
 use Rattle.std.specs.declared.result.Result.{Result}
 use Rattle.aegis_num.specs.declared.memory.OutOfMemory.{OutOfMemory}
@@ -62,11 +62,11 @@ DoesAs view outcome (Err (fault.Divide at)) state = outcome ≡ EndsAs (Divide a
 DoesAs view outcome (Err fault.Turns) state = outcome ≡ EndsAs Turns state
 DoesAs view outcome (Err fault.OutOfMemory) state = Unit {0}
 
--- the same, of a word
+-- of a word
 abbrev pub Does : Outcome ℕ → Result ℕ Fault → State → Type 0
 Does outcome result state = DoesAs (λ word. word) outcome result state
 
--- the same, of words
+-- of words
 abbrev pub DoesWords : Outcome (List ℕ) → Result (Vec ℕ Global) Fault → State → Type 0
 DoesWords outcome result state = DoesAs (λ (words : Vec ℕ Global). words.items) outcome result state
 
@@ -81,11 +81,11 @@ abbrev pub turn_of : Turn → Meaning.Turn
 turn_of turn.Again = Meaning.Again
 turn_of (turn.Leaves flow) = Meaning.Leaves (flow_of flow)
 
--- the same, of a statement
+-- of a statement
 abbrev pub DoesFlow : Outcome Meaning.Flow → Result Flow Fault → State → Type 0
 DoesFlow outcome result state = DoesAs flow_of outcome result state
 
--- the same, of a turn
+-- of a turn
 abbrev pub DoesTurn : Outcome Meaning.Turn → Result Turn Fault → State → Type 0
 DoesTurn outcome result state = DoesAs turn_of outcome result state
 

@@ -3,6 +3,7 @@ ghost use Rattle.std.specs.Prelude.{◌≡◌, not, ◌==◌, OnOk, IfErr};
 ghost use Rattle.std.specs.Option.{option_copied};
 ghost use Rattle.aegis_num.specs.Operators.{truth};
 ghost use Rattle.c_semantics.specs.States as states;
+ghost use Rattle.c_semantics.specs.ResolvedTree as tree;
 ghost use Rattle.c_semantics.specs.Meaning.{value, values, meaning, loop, value_or_zero, condition, result_of, given};
 ghost use Rattle.c_semantics.specs.ResolvedViews.{expr_of, exprs_of, stmt_of, stmts_of, branch_of, part_of};
 ghost use Rattle.c_evaluator.specs.Calls.{callable, one_turn};
@@ -11,13 +12,19 @@ ghost use Rattle.c_evaluator.specs.MachineStates.{bare, seen, flow_of, Does, Doe
 use crate::fault::Fault;
 use crate::flow::{Flow, Turn};
 use crate::machine::Machine;
-use aegis_num::BinaryOp;
+use crate::nesting::{OPEN_CALL, OPEN_EXPRESSION, OPEN_STATEMENT, deeper};
+use aegis_num::{BinaryOp, UnaryOp};
 use c_semantics::{Expr, Function, Stmt, Variable};
 use sqlite_items::{Boxed, at};
 
-/// The value of an expression, where these functions can be called.
+/// The value of an expression, where these functions can be called. `room` is how much may still be nested.
 #[cycle(run)]
-pub fn value_of(machine: &mut Machine, functions: &[Function], e: &Expr) -> Result<u32, Fault>
+pub fn value_of(
+    machine: &mut Machine,
+    functions: &[Function],
+    e: &Expr,
+    room: u32,
+) -> Result<u32, Fault>
     ensures does { Does (value bare (callable functions.now) (expr_of e.now) (seen machine.old)) result (seen machine.new) }
 {
     match e {
@@ -29,60 +36,151 @@ pub fn value_of(machine: &mut Machine, functions: &[Function], e: &Expr) -> Resu
             array,
             length,
             index,
-        } => {
-            let index = value_of(machine, functions, index.get())?;
-            let index = machine.within(*at, *length, index)?;
-            Ok(machine.read(array.token, index))
-        }
+        } => element(machine, functions, *at, *array, *length, index.get(), room),
         Expr::Called {
             function,
             arguments,
-        } => {
-            let words = values_of(machine, functions, arguments.as_slice())?;
-            call(machine, functions, *function, words)
-        }
+        } => call_for_value(machine, functions, *function, arguments.as_slice(), room),
         Expr::Input => Ok(machine.take_input()),
-        Expr::Unary { op, inner } => {
-            let word = value_of(machine, functions, inner.get())?;
-            Ok(op.apply(word))
-        }
+        Expr::Unary { op, inner } => unary(machine, functions, *op, inner.get(), room),
         Expr::Binary {
             at,
             op,
             left,
             right,
-        } => {
-            let first = value_of(machine, functions, left.get())?;
-            let second = value_of(machine, functions, right.get())?;
-            applied(*at, *op, first, second)
-        }
-        Expr::Both { left, right } => {
-            let left = value_of(machine, functions, left.get())?;
-            if left == 0 {
-                return Ok(0);
-            }
-            let right = value_of(machine, functions, right.get())?;
-            Ok(truth_of(right))
-        }
-        Expr::Either { left, right } => {
-            let left = value_of(machine, functions, left.get())?;
-            if left != 0 {
-                return Ok(1);
-            }
-            let right = value_of(machine, functions, right.get())?;
-            Ok(truth_of(right))
-        }
+        } => binary(machine, functions, *at, *op, left.get(), right.get(), room),
+        Expr::Both { left, right } => both(machine, functions, left.get(), right.get(), room),
+        Expr::Either { left, right } => either(machine, functions, left.get(), right.get(), room),
     }
+}
+
+/// The word of an element of an array.
+#[cycle(run)]
+#[inline(never)]
+fn element(
+    machine: &mut Machine,
+    functions: &[Function],
+    at: u32,
+    array: Variable,
+    length: u32,
+    index: &Expr,
+    room: u32,
+) -> Result<u32, Fault>
+    ensures does { Does (value bare (callable functions.now) (tree.Indexed at array length (expr_of index.now)) (seen machine.old)) result (seen machine.new) }
+{
+    let inside = deeper(room, OPEN_EXPRESSION)?;
+    let index = value_of(machine, functions, index, inside)?;
+    let index = machine.within(at, length, index)?;
+    Ok(machine.read(array.token, index))
+}
+
+/// The value of a call, with its arguments.
+#[cycle(run)]
+#[inline(never)]
+fn call_for_value(
+    machine: &mut Machine,
+    functions: &[Function],
+    number: usize,
+    arguments: &[Expr],
+    room: u32,
+) -> Result<u32, Fault>
+    ensures does { Does (value bare (callable functions.now) (tree.Called number (exprs_of arguments.now)) (seen machine.old)) result (seen machine.new) }
+{
+    let inside = deeper(room, OPEN_CALL)?;
+    let words = values_of(machine, functions, arguments, inside)?;
+    call(machine, functions, number, words, inside)
+}
+
+/// The value of an operator of one operand.
+#[cycle(run)]
+fn unary(
+    machine: &mut Machine,
+    functions: &[Function],
+    op: UnaryOp,
+    inner: &Expr,
+    room: u32,
+) -> Result<u32, Fault>
+    ensures does { Does (value bare (callable functions.now) (tree.Unary op (expr_of inner.now)) (seen machine.old)) result (seen machine.new) }
+{
+    let inside = deeper(room, OPEN_EXPRESSION)?;
+    let word = value_of(machine, functions, inner, inside)?;
+    Ok(op.apply(word))
+}
+
+/// The value of an operator of two operands.
+#[cycle(run)]
+fn binary(
+    machine: &mut Machine,
+    functions: &[Function],
+    at: u32,
+    op: BinaryOp,
+    left: &Expr,
+    right: &Expr,
+    room: u32,
+) -> Result<u32, Fault>
+    ensures does { Does (value bare (callable functions.now) (tree.Binary at op (expr_of left.now) (expr_of right.now)) (seen machine.old)) result (seen machine.new) }
+{
+    let inside = deeper(room, OPEN_EXPRESSION)?;
+    let first = value_of(machine, functions, left, inside)?;
+    let second = value_of(machine, functions, right, inside)?;
+    applied(at, op, first, second)
+}
+
+/// The value of `&&`.
+#[cycle(run)]
+#[inline(never)]
+fn both(
+    machine: &mut Machine,
+    functions: &[Function],
+    left: &Expr,
+    right: &Expr,
+    room: u32,
+) -> Result<u32, Fault>
+    ensures does { Does (value bare (callable functions.now) (tree.Both (expr_of left.now) (expr_of right.now)) (seen machine.old)) result (seen machine.new) }
+{
+    let inside = deeper(room, OPEN_EXPRESSION)?;
+    let word = value_of(machine, functions, left, inside)?;
+    if word == 0 {
+        return Ok(0);
+    }
+    let word = value_of(machine, functions, right, inside)?;
+    Ok(truth_of(word))
+}
+
+/// The value of `||`.
+#[cycle(run)]
+#[inline(never)]
+fn either(
+    machine: &mut Machine,
+    functions: &[Function],
+    left: &Expr,
+    right: &Expr,
+    room: u32,
+) -> Result<u32, Fault>
+    ensures does { Does (value bare (callable functions.now) (tree.Either (expr_of left.now) (expr_of right.now)) (seen machine.old)) result (seen machine.new) }
+{
+    let inside = deeper(room, OPEN_EXPRESSION)?;
+    let word = value_of(machine, functions, left, inside)?;
+    if word != 0 {
+        return Ok(1);
+    }
+    let word = value_of(machine, functions, right, inside)?;
+    Ok(truth_of(word))
 }
 
 /// The values of expressions, in order.
 #[cycle(run)]
-fn values_of(machine: &mut Machine, functions: &[Function], es: &[Expr]) -> Result<Vec<u32>, Fault>
+fn values_of(
+    machine: &mut Machine,
+    functions: &[Function],
+    es: &[Expr],
+    room: u32,
+) -> Result<Vec<u32>, Fault>
     ensures does { DoesWords (values bare (callable functions.now) (exprs_of es.now) (seen machine.old)) result (seen machine.new) }
 {
     let mut words = Vec::new(machine.alloc());
     for e in es {
-        let word = value_of(machine, functions, e)?;
+        let word = value_of(machine, functions, e, room)?;
         words.push(word)?;
     }
     Ok(words)
@@ -95,6 +193,7 @@ pub fn call(
     functions: &[Function],
     number: usize,
     words: Vec<u32>,
+    room: u32,
 ) -> Result<u32, Fault>
     ensures does { Does (callable functions.now number words.items (seen machine.old)) result (seen machine.new) }
 {
@@ -102,19 +201,24 @@ pub fn call(
         None => Ok(0),
         Some(function) => {
             give(machine, function.parameters.as_slice(), words.as_slice())?;
-            let flow = statements(machine, &functions[..number], function.body.as_slice())?;
+            let flow = statements(machine, &functions[..number], function.body.as_slice(), room)?;
             Ok(result_of(flow))
         }
     }
 }
 
-/// What statements do, one behind the other.
+/// What statements do, one after the other.
 #[cycle(run)]
-fn statements(machine: &mut Machine, functions: &[Function], ss: &[Stmt]) -> Result<Flow, Fault>
+fn statements(
+    machine: &mut Machine,
+    functions: &[Function],
+    ss: &[Stmt],
+    room: u32,
+) -> Result<Flow, Fault>
     ensures does { DoesFlow (meaning bare (callable functions.now) (stmts_of ss.now) (seen machine.old)) result (seen machine.new) }
 {
     for s in ss {
-        let flow = statement(machine, functions, s)?;
+        let flow = statement(machine, functions, s, room)?;
         if flow != Flow::Completed {
             return Ok(flow);
         }
@@ -124,74 +228,203 @@ fn statements(machine: &mut Machine, functions: &[Function], ss: &[Stmt]) -> Res
 
 /// What a statement does.
 #[cycle(run)]
-fn statement(machine: &mut Machine, functions: &[Function], s: &Stmt) -> Result<Flow, Fault>
+fn statement(
+    machine: &mut Machine,
+    functions: &[Function],
+    s: &Stmt,
+    room: u32,
+) -> Result<Flow, Fault>
     ensures does { DoesFlow (meaning bare (callable functions.now) (stmt_of s.now) (seen machine.old)) result (seen machine.new) }
 {
     match s {
-        Stmt::Empty => Ok(Flow::Completed),
-        Stmt::Block { body } => statements(machine, functions, body.as_slice()),
-        Stmt::Local { variable, value } => {
-            let first = value_or_zero(machine, functions, value)?;
-            machine.write(*variable, 0, first)?;
-            Ok(Flow::Completed)
-        }
-        Stmt::Assign { variable, value } => {
-            let word = value_of(machine, functions, value)?;
-            machine.write(*variable, 0, word)?;
-            Ok(Flow::Completed)
-        }
+        Stmt::Empty | Stmt::Suspend | Stmt::Check => Ok(Flow::Completed),
+        Stmt::Block { body } => block(machine, functions, body.as_slice(), room),
+        Stmt::Local { variable, value } => local(machine, functions, *variable, value, room),
+        Stmt::Assign { variable, value } => assign(machine, functions, *variable, value, room),
         Stmt::Store {
             at,
             array,
             length,
             index,
             value,
-        } => {
-            let index = value_of(machine, functions, index)?;
-            let place = machine.within(*at, *length, index)?;
-            let stored = value_of(machine, functions, value)?;
-            machine.write(*array, place, stored)?;
-            Ok(Flow::Completed)
-        }
+        } => store(machine, functions, *at, *array, *length, index, value, room),
         Stmt::Call {
             function,
             arguments,
-        } => {
-            let words = values_of(machine, functions, arguments.as_slice())?;
-            call(machine, functions, *function, words)?;
-            Ok(Flow::Completed)
-        }
-        Stmt::Suspend => Ok(Flow::Completed),
-        Stmt::Release { value } => {
-            let word = value_of(machine, functions, value)?;
-            machine.release(word)?;
-            Ok(Flow::Completed)
-        }
-        Stmt::Check => Ok(Flow::Completed),
-        Stmt::Return { value } => {
-            let word = value_or_zero(machine, functions, value)?;
-            Ok(Flow::Returned(word))
-        }
+        } => call_alone(machine, functions, *function, arguments.as_slice(), room),
+        Stmt::Release { value } => release(machine, functions, value, room),
+        Stmt::Return { value } => leave(machine, functions, value, room),
         Stmt::Break => Ok(Flow::Broke),
         Stmt::Continue => Ok(Flow::Continued),
-        Stmt::If { test, body, other } => {
-            let word = value_of(machine, functions, test)?;
-            if word == 0 {
-                return branch(machine, functions, other);
-            }
-            statement(machine, functions, body.get())
+        Stmt::If { test, body, other } => choice(machine, functions, test, body.get(), other, room),
+        Stmt::While { test, body } => {
+            repeat(machine, functions, Some(test), &None, body.get(), room)
         }
-        Stmt::While { test, body } => repeat(machine, functions, Some(test), &None, body.get()),
         Stmt::For {
             first,
             test,
             step,
             body,
-        } => {
-            branch(machine, functions, first)?;
-            repeat(machine, functions, test.as_ref(), step, body.get())
-        }
+        } => for_loop(machine, functions, first, test.as_ref(), step, body.get(), room),
     }
+}
+
+/// What a block does.
+#[cycle(run)]
+fn block(
+    machine: &mut Machine,
+    functions: &[Function],
+    body: &[Stmt],
+    room: u32,
+) -> Result<Flow, Fault>
+    ensures does { DoesFlow (meaning bare (callable functions.now) (tree.Block (stmts_of body.now)) (seen machine.old)) result (seen machine.new) }
+{
+    let inside = deeper(room, OPEN_STATEMENT)?;
+    statements(machine, functions, body, inside)
+}
+
+/// What the declaration of a local does.
+#[cycle(run)]
+#[inline(never)]
+fn local(
+    machine: &mut Machine,
+    functions: &[Function],
+    variable: Variable,
+    value: &Option<Expr>,
+    room: u32,
+) -> Result<Flow, Fault>
+    ensures does { DoesFlow (meaning bare (callable functions.now) (tree.Local variable (part_of value.now)) (seen machine.old)) result (seen machine.new) }
+{
+    let word = value_or_zero(machine, functions, value, room)?;
+    machine.write(variable, 0, word)?;
+    Ok(Flow::Completed)
+}
+
+/// What an assignment to a variable that is no array does.
+#[cycle(run)]
+#[inline(never)]
+fn assign(
+    machine: &mut Machine,
+    functions: &[Function],
+    variable: Variable,
+    value: &Expr,
+    room: u32,
+) -> Result<Flow, Fault>
+    ensures does { DoesFlow (meaning bare (callable functions.now) (tree.Assign variable (expr_of value.now)) (seen machine.old)) result (seen machine.new) }
+{
+    let word = value_of(machine, functions, value, room)?;
+    machine.write(variable, 0, word)?;
+    Ok(Flow::Completed)
+}
+
+/// What an assignment to an element of an array does.
+#[cycle(run)]
+#[inline(never)]
+fn store(
+    machine: &mut Machine,
+    functions: &[Function],
+    at: u32,
+    array: Variable,
+    length: u32,
+    index: &Expr,
+    value: &Expr,
+    room: u32,
+) -> Result<Flow, Fault>
+    ensures does { DoesFlow (meaning bare (callable functions.now) (tree.Store at array length (expr_of index.now) (expr_of value.now)) (seen machine.old)) result (seen machine.new) }
+{
+    let index = value_of(machine, functions, index, room)?;
+    let place = machine.within(at, length, index)?;
+    let stored = value_of(machine, functions, value, room)?;
+    machine.write(array, place, stored)?;
+    Ok(Flow::Completed)
+}
+
+/// What a call does whose value is dropped.
+#[cycle(run)]
+#[inline(never)]
+fn call_alone(
+    machine: &mut Machine,
+    functions: &[Function],
+    number: usize,
+    arguments: &[Expr],
+    room: u32,
+) -> Result<Flow, Fault>
+    ensures does { DoesFlow (meaning bare (callable functions.now) (tree.Call number (exprs_of arguments.now)) (seen machine.old)) result (seen machine.new) }
+{
+    let inside = deeper(room, OPEN_CALL)?;
+    let words = values_of(machine, functions, arguments, inside)?;
+    call(machine, functions, number, words, inside)?;
+    Ok(Flow::Completed)
+}
+
+/// What a release does.
+#[cycle(run)]
+#[inline(never)]
+fn release(
+    machine: &mut Machine,
+    functions: &[Function],
+    value: &Expr,
+    room: u32,
+) -> Result<Flow, Fault>
+    ensures does { DoesFlow (meaning bare (callable functions.now) (tree.Release (expr_of value.now)) (seen machine.old)) result (seen machine.new) }
+{
+    let word = value_of(machine, functions, value, room)?;
+    machine.release(word)?;
+    Ok(Flow::Completed)
+}
+
+/// What `return` does.
+#[cycle(run)]
+#[inline(never)]
+fn leave(
+    machine: &mut Machine,
+    functions: &[Function],
+    value: &Option<Expr>,
+    room: u32,
+) -> Result<Flow, Fault>
+    ensures does { DoesFlow (meaning bare (callable functions.now) (tree.Return (part_of value.now)) (seen machine.old)) result (seen machine.new) }
+{
+    let word = value_or_zero(machine, functions, value, room)?;
+    Ok(Flow::Returned(word))
+}
+
+/// What `if` does.
+#[cycle(run)]
+#[inline(never)]
+fn choice(
+    machine: &mut Machine,
+    functions: &[Function],
+    test: &Expr,
+    body: &Stmt,
+    other: &Option<Boxed<Stmt>>,
+    room: u32,
+) -> Result<Flow, Fault>
+    ensures does { DoesFlow (meaning bare (callable functions.now) (tree.If (expr_of test.now) (stmt_of body.now) (branch_of other.now)) (seen machine.old)) result (seen machine.new) }
+{
+    let inside = deeper(room, OPEN_STATEMENT)?;
+    let word = value_of(machine, functions, test, inside)?;
+    if word == 0 {
+        return branch(machine, functions, other, inside);
+    }
+    statement(machine, functions, body, inside)
+}
+
+/// What `for` does.
+#[cycle(run)]
+#[inline(never)]
+fn for_loop(
+    machine: &mut Machine,
+    functions: &[Function],
+    first: &Option<Boxed<Stmt>>,
+    test: Option<&Expr>,
+    step: &Option<Boxed<Stmt>>,
+    body: &Stmt,
+    room: u32,
+) -> Result<Flow, Fault>
+    ensures does { DoesFlow (meaning bare (callable functions.now) (tree.For (branch_of first.now) (part_of (option_copied test.entry)) (branch_of step.now) (stmt_of body.now)) (seen machine.old)) result (seen machine.new) }
+{
+    branch(machine, functions, first, room)?;
+    repeat(machine, functions, test, step, body, room)
 }
 
 /// The value of an expression, or zero where none stands.
@@ -200,12 +433,13 @@ fn value_or_zero(
     machine: &mut Machine,
     functions: &[Function],
     e: &Option<Expr>,
+    room: u32,
 ) -> Result<u32, Fault>
     ensures does { Does (value_or_zero bare (callable functions.now) (part_of e.now) (seen machine.old)) result (seen machine.new) }
 {
     match e {
         None => Ok(0),
-        Some(e) => value_of(machine, functions, e),
+        Some(e) => value_of(machine, functions, e, room),
     }
 }
 
@@ -215,12 +449,13 @@ fn branch(
     machine: &mut Machine,
     functions: &[Function],
     s: &Option<Boxed<Stmt>>,
+    room: u32,
 ) -> Result<Flow, Fault>
     ensures does { DoesFlow (meaning bare (callable functions.now) (branch_of s.now) (seen machine.old)) result (seen machine.new) }
 {
     match s {
         None => Ok(Flow::Completed),
-        Some(s) => statement(machine, functions, s.get()),
+        Some(s) => statement(machine, functions, s.get(), room),
     }
 }
 
@@ -232,12 +467,14 @@ fn repeat(
     test: Option<&Expr>,
     step: &Option<Boxed<Stmt>>,
     body: &Stmt,
+    room: u32,
 ) -> Result<Flow, Fault>
     ensures does { DoesFlow (loop (one_turn functions.now (option_copied test.entry) step.now body.now) (seen machine.old)) result (seen machine.new) }
 {
+    let inside = deeper(room, OPEN_STATEMENT)?;
     let mut rounds = machine.turns();
     loop {
-        match turn(machine, functions, test, step, body)? {
+        match turn(machine, functions, test, step, body, inside)? {
             Turn::Again => {}
             Turn::Leaves(flow) => return Ok(flow),
         }
@@ -256,28 +493,29 @@ fn turn(
     test: Option<&Expr>,
     step: &Option<Boxed<Stmt>>,
     body: &Stmt,
+    room: u32,
 ) -> Result<Turn, Fault>
     ensures does { DoesTurn (one_turn functions.now (option_copied test.entry) step.now body.now (seen machine.old)) result (seen machine.new) }
 {
     let word = match test {
         None => 1,
-        Some(test) => value_of(machine, functions, test)?,
+        Some(test) => value_of(machine, functions, test, room)?,
     };
     if word == 0 {
         return Ok(Turn::Leaves(Flow::Completed));
     }
     machine.begin_turn()?;
-    match statement(machine, functions, body)? {
+    match statement(machine, functions, body, room)? {
         Flow::Broke => Ok(Turn::Leaves(Flow::Completed)),
         Flow::Returned(word) => Ok(Turn::Leaves(Flow::Returned(word))),
         Flow::Completed | Flow::Continued => {
-            branch(machine, functions, step)?;
+            branch(machine, functions, step, room)?;
             Ok(Turn::Again)
         }
     }
 }
 
-/// The value of an operator of two operands.
+/// The value of an operator of two operands, where it has one.
 fn applied(at: u32, op: BinaryOp, left: u32, right: u32) -> Result<u32, Fault>
     ensures does { (s : states.State) → Does (states.applied at op left right s) result s }
 {

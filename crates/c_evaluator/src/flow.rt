@@ -13,11 +13,11 @@ pub enum Flow {
     Returned(u32),
 }
 
-/// What stands behind a turn of a loop.
+/// What comes after a turn of a loop.
 #[derive(Clone, Copy, Debug, PartialEq, Eq)]
 pub enum Turn {
     /// Another turn, if its condition holds.
     Again,
-    /// What stands behind the loop.
+    /// What comes after the loop.
     Leaves(Flow),
 }

@@ -6,6 +6,7 @@ mod fault;
 mod flow;
 mod machine;
 mod mean_end;
+mod nesting;
 mod run;
 
 pub use mean_end::MeanEnd;

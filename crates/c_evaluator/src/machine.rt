@@ -100,7 +100,7 @@ impl Machine {
         Err(Fault::Index { at })
     }
 
-    /// The next byte of the input, or -1 behind the last one.
+    /// The next byte of the input, or -1 after the last one.
     pub fn take_input(&mut self) -> u32
         ensures { taking_input (seen self.old) ≡ GoesOn result (seen self.new) }
     {
@@ -147,7 +147,7 @@ impl Machine {
     }
 }
 
-/// A word of a list, or zero behind its end.
+/// A word of a list, or zero after its end.
 #[tactic(auto, using(crate::proofs::Lookups::lookups))]
 fn word_at(words: &Items<u32>, index: u32) -> u32
     ensures { result ≡ slice_index words.now index }

@@ -8,6 +8,7 @@ use crate::evaluate::call;
 use crate::fault::Fault;
 use crate::machine::Machine;
 use crate::mean_end::MeanEnd;
+use crate::nesting::MAX_OPEN;
 use aegis_num::OutOfMemory;
 use c_semantics::Program;
 use std::alloc::Global;
@@ -34,6 +35,7 @@ pub fn mean_resolved(
         program.functions.as_slice(),
         program.main,
         Vec::new(alloc),
+        MAX_OPEN,
     ))?;
     out.extend_from_slice(machine.released())?;
     Ok(end)

@@ -6,12 +6,12 @@ use Rattle.c_semantics.specs.ResolvedTree as stmt
 use Rattle.c_semantics.specs.Meaning.{value, meaning, loop, given, result_of}
 use Rattle.c_semantics.specs.ResolvedViews.{expr_of, exprs_of, stmt_of, stmts_of, branch_of, part_of}
 use Rattle.c_semantics.proofs.ViewForms.{expr_of-Called, stmt_of-Block, stmt_of-While, stmt_of-For}
-use Rattle.c_evaluator.specs.Calls.{callable, one_turn, expr_size, arguments_size, stmt_size, functions_size}
+use Rattle.c_evaluator.specs.Calls.{callable, one_turn}
 use Rattle.c_evaluator.specs.MachineStates.{bare, seen, Does, DoesFlow}
 use Rattle.std.proofs.lemmas.Grind.{common_steps}
 use Rattle.c_evaluator.proofs.Ends.{stays-over}
 use Rattle.c_evaluator.proofs.Callable.{callable-none, callable-some}
-use Rattle.c_evaluator.proofs.Sizes.{statement-at, argument-at, body-smaller}
+use Rattle.c_evaluator.proofs.Sizes.{expr_size, arguments_size, stmt_size, functions_size, statement-at, argument-at, body-smaller}
 use Rattle.c_evaluator.proofs.evaluate.+run.Goals as goal
 
 pub call-returns-in-None : goal.call-returns-in-None
@@ -55,16 +55,16 @@ call-returns t c =
           ∙ ap (λ v. states.GoesOn v (seen c.statements.new.machine)) (sym c.result_of.ensures);
     }
 
-pub statement-statements-requires : goal.statement-statements-requires
-statement-statements-requires t c =
-    let size : stmt_size (stmt_of c.args.s.now) ≡ 1 + stmt_size (stmts_of c.as_slice.result.now) =
-    ap (λ s. stmt_size (stmt_of s)) c.in-Block.is ∙ ap stmt_size (stmt_of-Block c.in-Block.body) ∙ ap (λ ss. 1 + stmt_size (stmts_of ss)) (sym c.as_slice.ensures) in
+pub statement-block-requires : goal.statement-block-requires
+statement-block-requires t c =
+    let size : stmt_size (stmt_of c.args.s.now) ≡ 2 + stmt_size (stmts_of c.as_slice.result.now) =
+    ap (λ s. stmt_size (stmt_of s)) c.in-Block.is ∙ ap stmt_size (stmt_of-Block c.in-Block.body) ∙ ap (λ ss. 2 + stmt_size (stmts_of ss)) (sym c.as_slice.ensures) in
     (omega (arith, size, c.decreases), tt)
 
 pub statement-returns-in-Block : goal.statement-returns-in-Block
 statement-returns-in-Block t c =
     let form : stmt_of c.args.s.now ≡ stmt.Block (stmts_of c.in-Block.body) = ap stmt_of c.in-Block.is ∙ stmt_of-Block c.in-Block.body in
-    record { does = grind (arith, form, c.as_slice.ensures, c.statements.ensures.does) }
+    record { does = grind (arith, form, c.as_slice.ensures, c.block.ensures.does) }
 
 pub statement-returns-in-While : goal.statement-returns-in-While
 statement-returns-in-While t c =
@@ -74,39 +74,31 @@ statement-returns-in-While t c =
           (subst (λ body. DoesFlow (loop (one_turn c.args.functions.now (Some c.in-While.test) None body) (seen c.args.machine.now)) c.repeat.result (seen c.repeat.new.machine)) c.get-in-While.ensures c.repeat.ensures.does);
     }
 
-pub statement-returns-in_ok-branch-in-For : goal.statement-returns-in_ok-branch-in-For
-statement-returns-in_ok-branch-in-For t c =
+pub statement-returns-in-For : goal.statement-returns-in-For
+statement-returns-in-For t c =
     let form : stmt_of c.args.s.now ≡ stmt.For (branch_of c.in-For.first) (part_of c.in-For.test) (branch_of c.in-For.step) (stmt_of c.in-For.body) =
     ap stmt_of c.in-For.is ∙ stmt_of-For c.in-For.first c.in-For.test c.in-For.step c.in-For.body in
     record {
-      does = subst (λ st. DoesFlow (meaning bare (callable c.args.functions.now) st (seen c.args.machine.now)) c.repeat-in-For.result (seen c.repeat-in-For.new.machine)) (sym form)
-          (subst (λ o. DoesFlow (states.then o (λ flow s. loop (one_turn c.args.functions.now c.in-For.test c.in-For.step c.in-For.body) s)) c.repeat-in-For.result (seen c.repeat-in-For.new.machine)) (sym c.in_ok-branch-in-For.ensures.does)
-          (subst (λ body. DoesFlow (loop (one_turn c.args.functions.now c.in-For.test c.in-For.step body) (seen c.branch-machine-in-For.new.machine)) c.repeat-in-For.result (seen c.repeat-in-For.new.machine)) c.get-in-For.ensures
-          (subst (λ test. DoesFlow (loop (one_turn c.args.functions.now test c.in-For.step c.get-in-For.result.now) (seen c.branch-machine-in-For.new.machine)) c.repeat-in-For.result (seen c.repeat-in-For.new.machine)) c.as_ref.ensures.value c.repeat-in-For.ensures.does)));
+      does = subst (λ st. DoesFlow (meaning bare (callable c.args.functions.now) st (seen c.args.machine.now)) c.for_loop.result (seen c.for_loop.new.machine)) (sym form)
+          (subst (λ body. DoesFlow (meaning bare (callable c.args.functions.now) (stmt.For (branch_of c.in-For.first) (part_of c.in-For.test) (branch_of c.in-For.step) (stmt_of body)) (seen c.args.machine.now)) c.for_loop.result (seen c.for_loop.new.machine)) c.get-in-For.ensures
+          (subst (λ test. DoesFlow (meaning bare (callable c.args.functions.now) (stmt.For (branch_of c.in-For.first) (part_of test) (branch_of c.in-For.step) (stmt_of c.get-in-For.result.now)) (seen c.args.machine.now)) c.for_loop.result (seen c.for_loop.new.machine)) c.as_ref.ensures.value c.for_loop.ensures.does));
     }
 
 pub statements-statement-requires : goal.statements-statement-requires
 statements-statement-requires t c = (omega (arith, statement-at c.args.ss.now c.loop-s.s-index c.s-item.result c.s-item.is c.loop-s-test.true, c.decreases), tt)
 
-pub value_of-values_of-requires : goal.value_of-values_of-requires
-value_of-values_of-requires t c =
-    let size : expr_size (expr_of c.args.e.now) ≡ 2 + arguments_size (exprs_of c.as_slice.result.now) =
-    ap (λ e. expr_size (expr_of e)) c.in-Called.is ∙ ap expr_size (expr_of-Called c.in-Called.function c.in-Called.arguments) ∙ ap (λ es. 2 + arguments_size (exprs_of es)) (sym c.as_slice.ensures) in
+pub value_of-call_for_value-requires : goal.value_of-call_for_value-requires
+value_of-call_for_value-requires t c =
+    let size : expr_size (expr_of c.args.e.now) ≡ 3 + arguments_size (exprs_of c.as_slice.result.now) =
+    ap (λ e. expr_size (expr_of e)) c.in-Called.is ∙ ap expr_size (expr_of-Called c.in-Called.function c.in-Called.arguments) ∙ ap (λ es. 3 + arguments_size (exprs_of es)) (sym c.as_slice.ensures) in
     (omega (arith, size, c.decreases), tt)
 
-pub value_of-returns-in_err-words-in-Called : goal.value_of-returns-in_err-words-in-Called
-value_of-returns-in_err-words-in-Called t c =
-    let form : expr_of c.args.e.now ≡ stmt.Called c.in-Called.function (exprs_of c.as_slice.result.now) =
-    ap expr_of c.in-Called.is ∙ expr_of-Called c.in-Called.function c.in-Called.arguments ∙ ap (λ es. stmt.Called c.in-Called.function (exprs_of es)) (sym c.as_slice.ensures) in
-    record { does = grind (arith, common_steps, form, stays-over, c.in_err-words-in-Called.ensures.does) }
-
-pub value_of-returns-in_ok-words-in-Called : goal.value_of-returns-in_ok-words-in-Called
-value_of-returns-in_ok-words-in-Called t c =
+pub value_of-returns-in-Called : goal.value_of-returns-in-Called
+value_of-returns-in-Called t c =
     let form : expr_of c.args.e.now ≡ stmt.Called c.in-Called.function (exprs_of c.as_slice.result.now) =
     ap expr_of c.in-Called.is ∙ expr_of-Called c.in-Called.function c.in-Called.arguments ∙ ap (λ es. stmt.Called c.in-Called.function (exprs_of es)) (sym c.as_slice.ensures) in
     record {
-      does = subst (λ e. Does (value bare (callable c.args.functions.now) e (seen c.args.machine.now)) c.call.result (seen c.call.new.machine)) (sym form)
-          (subst (λ o. Does (states.then o (callable c.args.functions.now c.in-Called.function)) c.call.result (seen c.call.new.machine)) (sym c.in_ok-words-in-Called.ensures.does) c.call.ensures.does);
+      does = subst (λ e. Does (value bare (callable c.args.functions.now) e (seen c.args.machine.now)) c.call_for_value.result (seen c.call_for_value.new.machine)) (sym form) c.call_for_value.ensures.does;
     }
 
 pub values_of-value_of-requires : goal.values_of-value_of-requires

@@ -3,7 +3,8 @@ use Rattle.std.specs.Option.{option_copied}
 use Rattle.c_semantics.specs.States.{GoesOn, then}
 use Rattle.c_semantics.specs.Meaning.{values, meaning, loop, iterate}
 use Rattle.c_semantics.specs.ResolvedViews.{expr_of, exprs_of, stmt_of, stmts_of, branch_of, part_of}
-use Rattle.c_evaluator.specs.Calls.{callable, one_turn, expr_size, arguments_size, part_size, stmt_size, functions_size}
+use Rattle.c_evaluator.specs.Calls.{callable, one_turn}
+use Rattle.c_evaluator.proofs.Sizes.{expr_size, arguments_size, part_size, stmt_size, functions_size}
 use Rattle.c_evaluator.specs.MachineStates.{bare, seen}
 use Rattle.c_evaluator.proofs.evaluate.+run.Given as goal
 
@@ -33,6 +34,51 @@ decreases-value_or_zero l = functions_size l.functions.now + part_size (part_of 
 
 abbrev pub decreases-values_of : goal.decreases-values_of
 decreases-values_of l = functions_size l.functions.now + arguments_size (exprs_of l.es.now) + 1
+
+abbrev pub decreases-element : goal.decreases-element
+decreases-element l = functions_size l.functions.now + expr_size (expr_of l.index.now) + 1
+
+abbrev pub decreases-call_for_value : goal.decreases-call_for_value
+decreases-call_for_value l = functions_size l.functions.now + arguments_size (exprs_of l.arguments.now) + 2
+
+abbrev pub decreases-unary : goal.decreases-unary
+decreases-unary l = functions_size l.functions.now + expr_size (expr_of l.inner.now) + 1
+
+abbrev pub decreases-binary : goal.decreases-binary
+decreases-binary l = functions_size l.functions.now + expr_size (expr_of l.left.now) + expr_size (expr_of l.right.now) + 1
+
+abbrev pub decreases-both : goal.decreases-both
+decreases-both l = functions_size l.functions.now + expr_size (expr_of l.left.now) + expr_size (expr_of l.right.now) + 1
+
+abbrev pub decreases-either : goal.decreases-either
+decreases-either l = functions_size l.functions.now + expr_size (expr_of l.left.now) + expr_size (expr_of l.right.now) + 1
+
+abbrev pub decreases-block : goal.decreases-block
+decreases-block l = functions_size l.functions.now + stmt_size (stmts_of l.body.now) + 1
+
+abbrev pub decreases-local : goal.decreases-local
+decreases-local l = functions_size l.functions.now + part_size (part_of l.value.now) + 1
+
+abbrev pub decreases-assign : goal.decreases-assign
+decreases-assign l = functions_size l.functions.now + expr_size (expr_of l.value.now) + 1
+
+abbrev pub decreases-store : goal.decreases-store
+decreases-store l = functions_size l.functions.now + expr_size (expr_of l.index.now) + expr_size (expr_of l.value.now) + 1
+
+abbrev pub decreases-call_alone : goal.decreases-call_alone
+decreases-call_alone l = functions_size l.functions.now + arguments_size (exprs_of l.arguments.now) + 2
+
+abbrev pub decreases-release : goal.decreases-release
+decreases-release l = functions_size l.functions.now + expr_size (expr_of l.value.now) + 1
+
+abbrev pub decreases-leave : goal.decreases-leave
+decreases-leave l = functions_size l.functions.now + part_size (part_of l.value.now) + 1
+
+abbrev pub decreases-choice : goal.decreases-choice
+decreases-choice l = functions_size l.functions.now + expr_size (expr_of l.test.now) + stmt_size (stmt_of l.body.now) + stmt_size (branch_of l.other.now) + 3
+
+abbrev pub decreases-for_loop : goal.decreases-for_loop
+decreases-for_loop l = functions_size l.functions.now + stmt_size (branch_of l.first.now) + part_size (part_of (option_copied l.test)) + stmt_size (branch_of l.step.now) + stmt_size (stmt_of l.body.now) + 4
 
 abbrev pub invariant-repeat-loop-flow : goal.invariant-repeat-loop-flow
 invariant-repeat-loop-flow l =
