@@ -6,3 +6,4 @@ pub mod MentionedPrograms
 pub mod MentionedExamples
 pub mod Numbers
 pub mod MainFound
+pub mod Shaped

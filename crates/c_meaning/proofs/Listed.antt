@@ -11,7 +11,7 @@ use Rattle.c_types.specs.Checked.{listed_functions, listed_objects}
 use Rattle.c_resolver.specs.Resolving.{functions_in, function_tokens, objects_in, parameters_in}
 use Rattle.c_meaning.specs.FunctionNumbers.{FunctionsListed, ObjectsListed, Shape, listed_kept, listed_shape, resolved_kept, resolved_shape, trusted}
 
-parameters-length : (ps : List Parameter) → length (parameters_in ps) ≡ length ps
+pub parameters-length : (ps : List Parameter) → length (parameters_in ps) ≡ length ps
 parameters-length [] = refl
 parameters-length (p ∷ ps) = ap suc (parameters-length ps)
 

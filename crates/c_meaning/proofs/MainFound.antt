@@ -10,8 +10,8 @@ use Rattle.c_scopes.specs.declared.declaration.Declaration.{Declaration}
 use Rattle.c_types.specs.declared.site.Rule.{Rule}
 use Rattle.c_types.specs.declared.site.Rule.TheVariants.{Twice}
 use Rattle.c_types.specs.declared.site.Site.TheVariants as site
-use Rattle.c_scopes.specs.Scopes.{declares, latest, or_else}
-use Rattle.c_scopes.specs.Declarations.{declaration_of, declarations_of, name_of, token_of}
+use Rattle.c_scopes.specs.Scopes.{declares, latest, first_some}
+use Rattle.c_scopes.specs.Declarations.{declaration_of, declarations_of, item_name, token_of}
 use Rattle.c_types.specs.Sites.{item_sites}
 use Rattle.c_types.specs.TypingRules.{Breaks}
 use Rattle.c_types.specs.TypingRules.Breaks.{twice_global}
@@ -26,7 +26,7 @@ use Rattle.c_meaning.proofs.MentionedPrograms.{declarations-snoc, items-clean}
 
 abbrev Distinct : List Declaration → List Item → Type 0
 Distinct known [] = Unit {0}
-Distinct known (x ∷ xs) = (declares known (name_of x) ≡ false) × Distinct (known ++ declaration_of x ∷ []) xs
+Distinct known (x ∷ xs) = (declares known (item_name x) ≡ false) × Distinct (known ++ declaration_of x ∷ []) xs
 
 not-again : (number : ℕ) (again : Bool) (at : ℕ) → ((rule : Rule) → Breaks (site.Global number again at) rule → ⊥) → again ≡ false
 not-again number true at fits = absurd (fits Twice (twice_global number at))
@@ -35,7 +35,7 @@ not-again number false at fits = refl
 items-distinct : (before rest : List Item) → Clean (items_sites before rest) → Distinct (declarations_of before) rest
 items-distinct before [] clean = tt
 items-distinct before (x ∷ rest) clean = (
-  not-again (length before) (declares (declarations_of before) (name_of x)) (token_of x) (clean-front (item_sites before x) (items_sites (before ++ x ∷ []) rest) clean).0,
+  not-again (length before) (declares (declarations_of before) (item_name x)) (token_of x) (clean-front (item_sites before x) (items_sites (before ++ x ∷ []) rest) clean).0,
   subst (λ ds. Distinct ds rest) (declarations-snoc before x)
       (items-distinct (before ++ x ∷ []) rest (clean-back (item_sites before x) (items_sites (before ++ x ∷ []) rest) clean)),
 )
@@ -78,21 +78,21 @@ not-main known name held free =
 none-later : (known : List Declaration) (rest : List Item) → declares known (codes "main") ≡ true → Distinct known rest → latest (declarations_of rest) (codes "main") ≡ None
 none-later known [] held distinct = refl
 none-later known (y ∷ rest) held distinct =
-    ap (λ o. or_else o (cond (bytes_eq (name_of y) (codes "main")) (Some (declaration_of y).binding) None))
+    ap (λ o. first_some o (cond (bytes_eq (item_name y) (codes "main")) (Some (declaration_of y).binding) None))
     (none-later (known ++ declaration_of y ∷ []) rest (declares-more known (declaration_of y ∷ []) (codes "main") held) distinct.1)
-    ∙ ap (λ b. cond b (Some (declaration_of y).binding) None) (not-main known (name_of y) held distinct.0)
+    ∙ ap (λ b. cond b (Some (declaration_of y).binding) None) (not-main known (item_name y) held distinct.0)
 
-found : (known : List Declaration) (before after : List Item) (x : Item) → bytes_eq (name_of x) (codes "main") ≡ true → Distinct known (before ++ x ∷ after) →
+found : (known : List Declaration) (before after : List Item) (x : Item) → bytes_eq (item_name x) (codes "main") ≡ true → Distinct known (before ++ x ∷ after) →
     latest (declarations_of (before ++ x ∷ after)) (codes "main") ≡ Some (declaration_of x).binding
 found known [] after x same distinct =
-    ap (λ o. or_else o (cond (bytes_eq (name_of x) (codes "main")) (Some (declaration_of x).binding) None))
+    ap (λ o. first_some o (cond (bytes_eq (item_name x) (codes "main")) (Some (declaration_of x).binding) None))
     (none-later (known ++ declaration_of x ∷ []) after (declares-last known (declaration_of x) (codes "main") same) distinct.1)
     ∙ ap (λ b. cond b (Some (declaration_of x).binding) None) same
 found known (y ∷ before) after x same distinct =
-    ap (λ o. or_else o (cond (bytes_eq (name_of y) (codes "main")) (Some (declaration_of y).binding) None))
+    ap (λ o. first_some o (cond (bytes_eq (item_name y) (codes "main")) (Some (declaration_of y).binding) None))
     (found (known ++ declaration_of y ∷ []) before after x same distinct.1)
 
-main_named : (x : Item) → is_main x ≡ true → bytes_eq (name_of x) (codes "main") ≡ true
+main_named : (x : Item) → is_main x ≡ true → bytes_eq (item_name x) (codes "main") ≡ true
 main_named (item.Object storage unsigned name length' token) is = absurd (cc)
 main_named (item.Constant unsigned name length' values braces token) is = absurd (cc)
 main_named (item.Untrusted name token) is = absurd (cc)

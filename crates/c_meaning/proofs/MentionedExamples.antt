@@ -23,11 +23,11 @@ use Rattle.c_types.specs.declared.site.Site.TheVariants as site
 use Rattle.c_scopes.specs.Scopes.{is_again, latest}
 use Rattle.c_types.specs.Sites
 use Rattle.c_scopes.specs.Declarations.{local as local_of}
-use Rattle.c_types.specs.Sites.{ExprSites, StmtSites, assign, place_after, expr_sites, inside, looped, part_sites, stmt_sites, use_of}
+use Rattle.c_types.specs.Sites.{ExprSites, StmtSites, assign, place_after, expr_sites, inner_scope, looped, part_sites, stmt_sites, use_of}
 use Rattle.c_semantics.specs.declared.tree.Variable.{Variable}
 use Rattle.c_semantics.specs.ResolvedTree as Tree
 use Rattle.c_resolver.specs.Resolving
-use Rattle.c_resolver.specs.Resolving.{Resolved, ResolvedStmt, assigned, binary_of, call_value, function_tokens, functions_in, indexed, named, part_in, plain_program, resolved, typed, variable_of}
+use Rattle.c_resolver.specs.Resolving.{Resolved, ResolvedStmt, assignment_to, binary_of, call_value, function_tokens, functions_in, indexed, named, part_in, plain_program, resolved, typed, variable_of}
 use Rattle.c_meaning.specs.Mentions.{Mention, Declared, Scalar, Array, Called, at_sites, in_functions, mentions, program_sites}
 use Rattle.c_resolver.proofs.Rows.{resolved-For}
 
@@ -101,7 +101,7 @@ typed-Number fs value unsigned token known =
 
 sites-Number : (value : ℕ) (unsigned : Bool) (token : ℕ) (known : List Declaration) (home : Home) → expr_sites (expr.Number value unsigned token) known home ≡ []
 sites-Number value unsigned token known home =
-    ap (λ e'. expr_sites e' known home) (sym (expr.rolls-Number value unsigned token)) ∙ ap (λ r. r known home) (fold-roll-Expr ExprSites Sites.expr_step (Expr-F.Number value unsigned token))
+    ap (λ e'. expr_sites e' known home) (sym (expr.rolls-Number value unsigned token)) ∙ ap (λ r. r known home) (fold-roll-Expr ExprSites Sites.expr_sites_step (Expr-F.Number value unsigned token))
 
 typed-Name : (fs : List ℕ) (text : List ℕ) (token : ℕ) (known : List Declaration) → typed fs (expr.Name text token) known ≡ named (latest known text)
 typed-Name fs text token known =
@@ -109,7 +109,7 @@ typed-Name fs text token known =
 
 sites-Name : (text : List ℕ) (token : ℕ) (known : List Declaration) (home : Home) → expr_sites (expr.Name text token) known home ≡ use_of Value known home text token ∷ []
 sites-Name text token known home =
-    ap (λ e'. expr_sites e' known home) (sym (expr.rolls-Name text token)) ∙ ap (λ r. r known home) (fold-roll-Expr ExprSites Sites.expr_step (Expr-F.Name text token))
+    ap (λ e'. expr_sites e' known home) (sym (expr.rolls-Name text token)) ∙ ap (λ r. r known home) (fold-roll-Expr ExprSites Sites.expr_sites_step (Expr-F.Name text token))
 
 typed-Index : (fs : List ℕ) (text : List ℕ) (index : Expr) (token : ℕ) (known : List Declaration) → typed fs (expr.Index text index token) known ≡ indexed (latest known text) token (typed fs index known).expr
 typed-Index fs text index token known =
@@ -117,7 +117,7 @@ typed-Index fs text index token known =
 
 sites-Index : (text : List ℕ) (index : Expr) (token : ℕ) (known : List Declaration) (home : Home) → expr_sites (expr.Index text index token) known home ≡ use_of Element known home text (token - 1) ∷ expr_sites index known home
 sites-Index text index token known home =
-    ap (λ e'. expr_sites e' known home) (sym (expr.rolls-Index text index token)) ∙ ap (λ r. r known home) (fold-roll-Expr ExprSites Sites.expr_step (Expr-F.Index text index token))
+    ap (λ e'. expr_sites e' known home) (sym (expr.rolls-Index text index token)) ∙ ap (λ r. r known home) (fold-roll-Expr ExprSites Sites.expr_sites_step (Expr-F.Index text index token))
 
 typed-Call : (fs : List ℕ) (text : List ℕ) (e : Expr) (token : ℕ) (known : List Declaration) → typed fs (expr.Call text (e ∷ []) token) known ≡ call_value fs (latest known text) (Tree.Argument (typed fs e known).expr Tree.NoArguments)
 typed-Call fs text e token known =
@@ -125,7 +125,7 @@ typed-Call fs text e token known =
 
 sites-Call : (text : List ℕ) (e : Expr) (token : ℕ) (known : List Declaration) (home : Home) → expr_sites (expr.Call text (e ∷ []) token) known home ≡ use_of (CallValue 1) known home text token ∷ expr_sites e known home
 sites-Call text e token known home =
-    ap (λ e'. expr_sites e' known home) (sym (expr.rolls-Call text (e ∷ []) token)) ∙ ap (λ r. r known home) (fold-roll-Expr ExprSites Sites.expr_step (Expr-F.Call text (e ∷ []) token))
+    ap (λ e'. expr_sites e' known home) (sym (expr.rolls-Call text (e ∷ []) token)) ∙ ap (λ r. r known home) (fold-roll-Expr ExprSites Sites.expr_sites_step (Expr-F.Call text (e ∷ []) token))
     ∙ ap (λ later. use_of (CallValue 1) known home text token ∷ later) (append-nil (expr_sites e known home))
 
 typed-Binary : (fs : List ℕ) (op : Sign) (left right : Expr) (token : ℕ) (known : List Declaration) → typed fs (expr.Binary op left right token) known ≡ binary_of op token (typed fs left known) (typed fs right known)
@@ -134,7 +134,7 @@ typed-Binary fs op left right token known =
 
 sites-Binary : (op : Sign) (left right : Expr) (token : ℕ) (known : List Declaration) (home : Home) → expr_sites (expr.Binary op left right token) known home ≡ expr_sites left known home ++ expr_sites right known home
 sites-Binary op left right token known home =
-    ap (λ e'. expr_sites e' known home) (sym (expr.rolls-Binary op left right token)) ∙ ap (λ r. r known home) (fold-roll-Expr ExprSites Sites.expr_step (Expr-F.Binary op left right token))
+    ap (λ e'. expr_sites e' known home) (sym (expr.rolls-Binary op left right token)) ∙ ap (λ r. r known home) (fold-roll-Expr ExprSites Sites.expr_sites_step (Expr-F.Binary op left right token))
 
 at-Local : (fs : List ℕ) (unsigned : Bool) (text : List ℕ) (value : Option Expr) (token : ℕ) (known : List Declaration) → (resolved fs (stmt.Local unsigned text value token)).at known ≡ Tree.Local (variable_of token None) (part_in fs value known)
 at-Local fs unsigned text value token known = ap (λ s. s.at known) (ap (resolved fs) (sym (stmt.rolls-Local unsigned text value token)) ∙ fold-roll-Stmt ResolvedStmt (Resolving.stmt_step fs) (Stmt-F.Local unsigned text value token))
@@ -143,16 +143,16 @@ declared-Local : (fs : List ℕ) (unsigned : Bool) (text : List ℕ) (value : Op
 declared-Local fs unsigned text value token = ap (λ s. s.declared) (ap (resolved fs) (sym (stmt.rolls-Local unsigned text value token)) ∙ fold-roll-Stmt ResolvedStmt (Resolving.stmt_step fs) (Stmt-F.Local unsigned text value token))
 
 sites-Local : (unsigned : Bool) (text : List ℕ) (value : Option Expr) (token : ℕ) → stmt_sites (stmt.Local unsigned text value token) ≡ record { declared = local_of unsigned text token ∷ []; sites = λ place. site.Local (is_again place.scope text) token ∷ part_sites value place.scope.known place.home }
-sites-Local unsigned text value token = ap stmt_sites (sym (stmt.rolls-Local unsigned text value token)) ∙ fold-roll-Stmt StmtSites Sites.stmt_step (Stmt-F.Local unsigned text value token)
+sites-Local unsigned text value token = ap stmt_sites (sym (stmt.rolls-Local unsigned text value token)) ∙ fold-roll-Stmt StmtSites Sites.stmt_sites_step (Stmt-F.Local unsigned text value token)
 
-at-Assign : (fs : List ℕ) (text : List ℕ) (index : Option Expr) (value : Expr) (token : ℕ) (known : List Declaration) → (resolved fs (stmt.Assign text index value token)).at known ≡ assigned (latest known text) token (part_in fs index known) (typed fs value known).expr
+at-Assign : (fs : List ℕ) (text : List ℕ) (index : Option Expr) (value : Expr) (token : ℕ) (known : List Declaration) → (resolved fs (stmt.Assign text index value token)).at known ≡ assignment_to (latest known text) token (part_in fs index known) (typed fs value known).expr
 at-Assign fs text index value token known = ap (λ s. s.at known) (ap (resolved fs) (sym (stmt.rolls-Assign text index value token)) ∙ fold-roll-Stmt ResolvedStmt (Resolving.stmt_step fs) (Stmt-F.Assign text index value token))
 
 declared-Assign : (fs : List ℕ) (text : List ℕ) (index : Option Expr) (value : Expr) (token : ℕ) → (resolved fs (stmt.Assign text index value token)).declared ≡ []
 declared-Assign fs text index value token = ap (λ s. s.declared) (ap (resolved fs) (sym (stmt.rolls-Assign text index value token)) ∙ fold-roll-Stmt ResolvedStmt (Resolving.stmt_step fs) (Stmt-F.Assign text index value token))
 
 sites-Assign : (text : List ℕ) (index : Option Expr) (value : Expr) (token : ℕ) → stmt_sites (stmt.Assign text index value token) ≡ Sites.only_sites (λ place. use_of (assign index) place.scope.known place.home text token ∷ (part_sites index place.scope.known place.home ++ expr_sites value place.scope.known place.home))
-sites-Assign text index value token = ap stmt_sites (sym (stmt.rolls-Assign text index value token)) ∙ fold-roll-Stmt StmtSites Sites.stmt_step (Stmt-F.Assign text index value token)
+sites-Assign text index value token = ap stmt_sites (sym (stmt.rolls-Assign text index value token)) ∙ fold-roll-Stmt StmtSites Sites.stmt_sites_step (Stmt-F.Assign text index value token)
 
 at-Return : (fs : List ℕ) (value : Option Expr) (token : ℕ) (known : List Declaration) → (resolved fs (stmt.Return value token)).at known ≡ Tree.Return (part_in fs value known)
 at-Return fs value token known = ap (λ s. s.at known) (ap (resolved fs) (sym (stmt.rolls-Return value token)) ∙ fold-roll-Stmt ResolvedStmt (Resolving.stmt_step fs) (Stmt-F.Return value token))
@@ -161,7 +161,7 @@ declared-Return : (fs : List ℕ) (value : Option Expr) (token : ℕ) → (resol
 declared-Return fs value token = ap (λ s. s.declared) (ap (resolved fs) (sym (stmt.rolls-Return value token)) ∙ fold-roll-Stmt ResolvedStmt (Resolving.stmt_step fs) (Stmt-F.Return value token))
 
 sites-Return : (value : Option Expr) (token : ℕ) → stmt_sites (stmt.Return value token) ≡ Sites.only_sites (λ place. site.Return place.home.result (is_some value) token ∷ part_sites value place.scope.known place.home)
-sites-Return value token = ap stmt_sites (sym (stmt.rolls-Return value token)) ∙ fold-roll-Stmt StmtSites Sites.stmt_step (Stmt-F.Return value token)
+sites-Return value token = ap stmt_sites (sym (stmt.rolls-Return value token)) ∙ fold-roll-Stmt StmtSites Sites.stmt_sites_step (Stmt-F.Return value token)
 
 at-turns : (fs : List ℕ) (known : List Declaration) → (resolved fs turns).at known
     ≡ Tree.For ((resolved fs first).at known) (Some (typed fs test (known ++ (resolved fs first).declared)).expr)
@@ -172,12 +172,12 @@ declared-turns : (fs : List ℕ) → (resolved fs turns).declared ≡ []
 declared-turns fs = ap (λ s. s.declared) (resolved-For fs (Some first) (Some test) (Some step) body 33)
 
 sites-turns : stmt_sites turns ≡ Sites.only_sites (λ place.
-    let around = place_after (stmt_sites first).declared (inside place) in
-    (stmt_sites first).sites (inside place)
-    ++ (expr_sites test around.scope.known around.home ++ (stmt_sites step).sites (inside around) ++ (stmt_sites body).sites (looped around)))
+    let around = place_after (stmt_sites first).declared (inner_scope place) in
+    (stmt_sites first).sites (inner_scope place)
+    ++ (expr_sites test around.scope.known around.home ++ (stmt_sites step).sites (inner_scope around) ++ (stmt_sites body).sites (looped around)))
 sites-turns =
     ap stmt_sites (sym (stmt.rolls-For (Some first) (Some test) (Some step) body 33))
-    ∙ fold-roll-Stmt StmtSites Sites.stmt_step (Stmt-F.For (Some first) (Some test) (Some step) body 33)
+    ∙ fold-roll-Stmt StmtSites Sites.stmt_sites_step (Stmt-F.For (Some first) (Some test) (Some step) body 33)
 
 ruleset resolved_forms = (typed-Number, typed-Name, typed-Index, typed-Call, typed-Binary, at-Local, declared-Local, at-Assign, declared-Assign, at-Return, declared-Return, at-turns, declared-turns)
 

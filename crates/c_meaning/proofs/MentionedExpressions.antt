@@ -74,14 +74,14 @@ number_agrees : (fs : List ℕ) (value : ℕ) (unsigned : Bool) (token : ℕ) �
 number_agrees fs value unsigned token =
     by_layer fs (expr.Number value unsigned token) _ _
     (ap (typed fs) (sym (expr.rolls-Number value unsigned token)) ∙ fold-roll-Expr Resolved (Resolving.expr_step fs) (Expr-F.Number value unsigned token))
-    (ap expr_sites (sym (expr.rolls-Number value unsigned token)) ∙ fold-roll-Expr ExprSites Sites.expr_step (Expr-F.Number value unsigned token))
+    (ap expr_sites (sym (expr.rolls-Number value unsigned token)) ∙ fold-roll-Expr ExprSites Sites.expr_sites_step (Expr-F.Number value unsigned token))
     (λ known home clean. refl)
 
 name_agrees : (fs : List ℕ) (name : List ℕ) (token : ℕ) → Agrees fs (typed fs (expr.Name name token)) (expr_sites (expr.Name name token))
 name_agrees fs name token =
     by_layer fs (expr.Name name token) _ _
     (ap (typed fs) (sym (expr.rolls-Name name token)) ∙ fold-roll-Expr Resolved (Resolving.expr_step fs) (Expr-F.Name name token))
-    (ap expr_sites (sym (expr.rolls-Name name token)) ∙ fold-roll-Expr ExprSites Sites.expr_step (Expr-F.Name name token))
+    (ap expr_sites (sym (expr.rolls-Name name token)) ∙ fold-roll-Expr ExprSites Sites.expr_sites_step (Expr-F.Name name token))
     (λ known home clean. named-bound fs home token (latest known name) clean.0)
 
 index_agrees : (fs : List ℕ) (name : List ℕ) (index : Expr) (token : ℕ) → Agrees fs (typed fs index) (expr_sites index) →
@@ -89,7 +89,7 @@ index_agrees : (fs : List ℕ) (name : List ℕ) (index : Expr) (token : ℕ) �
 index_agrees fs name index token agrees =
     by_layer fs (expr.Index name index token) _ _
     (ap (typed fs) (sym (expr.rolls-Index name index token)) ∙ fold-roll-Expr Resolved (Resolving.expr_step fs) (Expr-F.Index name index token))
-    (ap expr_sites (sym (expr.rolls-Index name index token)) ∙ fold-roll-Expr ExprSites Sites.expr_step (Expr-F.Index name index token))
+    (ap expr_sites (sym (expr.rolls-Index name index token)) ∙ fold-roll-Expr ExprSites Sites.expr_sites_step (Expr-F.Index name index token))
     (λ known home clean. indexed-bound fs home (token - 1) (latest known name) token (typed fs index known).expr clean.0
     ∙ ap (λ ms. bound fs (latest known name) ++ ms) (agrees known home clean.1))
 
@@ -110,7 +110,7 @@ call_agrees : (fs : List ℕ) (name : List ℕ) (es : List Expr) (token : ℕ) �
 call_agrees fs name es token agrees =
     by_layer fs (expr.Call name es token) _ _
     (ap (typed fs) (sym (expr.rolls-Call name es token)) ∙ fold-roll-Expr Resolved (Resolving.expr_step fs) (Expr-F.Call name es token))
-    (ap expr_sites (sym (expr.rolls-Call name es token)) ∙ fold-roll-Expr ExprSites Sites.expr_step (Expr-F.Call name es token))
+    (ap expr_sites (sym (expr.rolls-Call name es token)) ∙ fold-roll-Expr ExprSites Sites.expr_sites_step (Expr-F.Call name es token))
     (λ known home clean. called-bound fs (length (map expr_sites es)) home token (latest known name) (arguments_in (map (typed fs) es) known) clean.0
     ∙ ap (λ ms. bound fs (latest known name) ++ ms)
     (mentioned-by fs (in_arguments (arguments_in (map (typed fs) es) known)) (in_arguments (list_in fs es known))
@@ -121,7 +121,7 @@ input_agrees : (fs : List ℕ) (token : ℕ) → Agrees fs (typed fs (expr.Input
 input_agrees fs token =
     by_layer fs (expr.Input token) _ _
     (ap (typed fs) (sym (expr.rolls-Input token)) ∙ fold-roll-Expr Resolved (Resolving.expr_step fs) (Expr-F.Input token))
-    (ap expr_sites (sym (expr.rolls-Input token)) ∙ fold-roll-Expr ExprSites Sites.expr_step (Expr-F.Input token))
+    (ap expr_sites (sym (expr.rolls-Input token)) ∙ fold-roll-Expr ExprSites Sites.expr_sites_step (Expr-F.Input token))
     (λ known home clean. refl)
 
 paren_agrees : (fs : List ℕ) (inner : Expr) (token : ℕ) → Agrees fs (typed fs inner) (expr_sites inner) →
@@ -129,7 +129,7 @@ paren_agrees : (fs : List ℕ) (inner : Expr) (token : ℕ) → Agrees fs (typed
 paren_agrees fs inner token agrees =
     by_layer fs (expr.Paren inner token) _ _
     (ap (typed fs) (sym (expr.rolls-Paren inner token)) ∙ fold-roll-Expr Resolved (Resolving.expr_step fs) (Expr-F.Paren inner token))
-    (ap expr_sites (sym (expr.rolls-Paren inner token)) ∙ fold-roll-Expr ExprSites Sites.expr_step (Expr-F.Paren inner token))
+    (ap expr_sites (sym (expr.rolls-Paren inner token)) ∙ fold-roll-Expr ExprSites Sites.expr_sites_step (Expr-F.Paren inner token))
     agrees
 
 unary_agrees : (fs : List ℕ) (op : Sign) (inner : Expr) (token : ℕ) → is_unary_operator op ≡ true → Agrees fs (typed fs inner) (expr_sites inner) →
@@ -137,7 +137,7 @@ unary_agrees : (fs : List ℕ) (op : Sign) (inner : Expr) (token : ℕ) → is_u
 unary_agrees fs op inner token is agrees =
     by_layer fs (expr.Unary op inner token) _ _
     (ap (typed fs) (sym (expr.rolls-Unary op inner token)) ∙ fold-roll-Expr Resolved (Resolving.expr_step fs) (Expr-F.Unary op inner token))
-    (ap expr_sites (sym (expr.rolls-Unary op inner token)) ∙ fold-roll-Expr ExprSites Sites.expr_step (Expr-F.Unary op inner token))
+    (ap expr_sites (sym (expr.rolls-Unary op inner token)) ∙ fold-roll-Expr ExprSites Sites.expr_sites_step (Expr-F.Unary op inner token))
     (λ known home clean. unary-operand op (typed fs inner known) is ∙ agrees known home clean)
 
 binary_agrees : (fs : List ℕ) (op : Sign) (left right : Expr) (token level : ℕ) → rank op ≡ suc level →
@@ -146,7 +146,7 @@ binary_agrees : (fs : List ℕ) (op : Sign) (left right : Expr) (token level : �
 binary_agrees fs op left right token level is first second =
     by_layer fs (expr.Binary op left right token) _ _
     (ap (typed fs) (sym (expr.rolls-Binary op left right token)) ∙ fold-roll-Expr Resolved (Resolving.expr_step fs) (Expr-F.Binary op left right token))
-    (ap expr_sites (sym (expr.rolls-Binary op left right token)) ∙ fold-roll-Expr ExprSites Sites.expr_step (Expr-F.Binary op left right token))
+    (ap expr_sites (sym (expr.rolls-Binary op left right token)) ∙ fold-roll-Expr ExprSites Sites.expr_sites_step (Expr-F.Binary op left right token))
     (λ known home clean. binary-operands op token level (typed fs left known) (typed fs right known) is
     ∙ mentioned-append fs (in_expr (typed fs left known).expr) (in_expr (typed fs right known).expr) (expr_sites left known home) (expr_sites right known home)
     (first known home) (second known home) clean)

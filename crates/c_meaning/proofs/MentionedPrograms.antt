@@ -75,7 +75,7 @@ in_functions-append (x ∷ xs) ys =
     ap (λ ms. (in_parameters x.parameters ++ in_stmt x.body) ++ ms) (in_functions-append xs ys)
     ∙ sym (append_assoc (in_parameters x.parameters ++ in_stmt x.body) (in_functions xs) (in_functions ys))
 
-functions-cons : (fs : List ℕ) (x : Item) (xs : List Item) (known : List Declaration) →
+pub functions-cons : (fs : List ℕ) (x : Item) (xs : List Item) (known : List Declaration) →
     functions_in fs (x ∷ xs) known ≡ functions_in fs (x ∷ []) known ++ functions_in fs xs (known ++ declaration_of x ∷ [])
 functions-cons fs (item.Object storage unsigned name length' token) xs known = refl
 functions-cons fs (item.Constant unsigned name length' values braces token) xs known = refl

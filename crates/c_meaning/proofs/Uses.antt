@@ -15,11 +15,11 @@ use Rattle.c_types.specs.declared.site.Rule.{Rule}
 use Rattle.c_types.specs.declared.site.Rule.TheVariants.{Unknown, Shape, Arity}
 use Rattle.c_types.specs.declared.site.Site.TheVariants as site
 use Rattle.std.specs.Str.{bytes_eq}
-use Rattle.c_scopes.specs.Scopes.{latest, or_else}
+use Rattle.c_scopes.specs.Scopes.{latest, first_some}
 use Rattle.c_types.specs.TypingRules.{Breaks, is_void}
 use Rattle.c_types.specs.TypingRules.Breaks.{unknown, array_whole, scalar_indexed, object_called, function_named, no_value, other_number}
 use Rattle.c_semantics.specs.ResolvedTree as Tree
-use Rattle.c_resolver.specs.Resolving.{Typed, assigned, binary_of, call_of, call_value, indexed, list_in, named, unary_of}
+use Rattle.c_resolver.specs.Resolving.{Typed, assignment_to, binary_of, call_of, call_value, indexed, list_in, named, unary_value}
 use Rattle.c_meaning.specs.Mentions.{bound, bound_to, in_arguments, in_expr, in_stmt}
 
 -- no rule is broken by a use of a name
@@ -82,7 +82,7 @@ called-bound fs n home at (Some b) given fits = called-known fs n home at b.toke
 -- ---- assignments
 
 whole-known : (fs : List ℕ) (home : Home) (at token : ℕ) (e : Entity) (place : ℕ) (value : Tree.Expr) → Fits Assign (Some (binding token e)) home at →
-    in_stmt (assigned (Some (binding token e)) place None value) ≡ bound_to fs token e ++ in_expr value
+    in_stmt (assignment_to (Some (binding token e)) place None value) ≡ bound_to fs token e ++ in_expr value
 whole-known fs home at token (entity.Local unsigned) place value fits = refl
 whole-known fs home at token (entity.Object class unsigned None) place value fits = refl
 whole-known fs home at token (entity.Object class unsigned (Some length)) place value fits =
@@ -91,12 +91,12 @@ whole-known fs home at token (entity.Function result untrusted parameters) place
     absurd (fits Shape (function_named Assign (binding token (entity.Function result untrusted parameters)) home at refl refl))
 
 pub whole-bound : (fs : List ℕ) (home : Home) (at : ℕ) (means : Option Binding) (place : ℕ) (value : Tree.Expr) → Fits Assign means home at →
-    in_stmt (assigned means place None value) ≡ bound fs means ++ in_expr value
+    in_stmt (assignment_to means place None value) ≡ bound fs means ++ in_expr value
 whole-bound fs home at None place value fits = absurd (fits Unknown (unknown Assign home at))
 whole-bound fs home at (Some b) place value fits = whole-known fs home at b.token b.entity place value fits
 
 element-known : (fs : List ℕ) (home : Home) (at token : ℕ) (e : Entity) (place : ℕ) (index value : Tree.Expr) → Fits AssignElement (Some (binding token e)) home at →
-    in_stmt (assigned (Some (binding token e)) place (Some index) value) ≡ bound_to fs token e ++ (in_expr index ++ in_expr value)
+    in_stmt (assignment_to (Some (binding token e)) place (Some index) value) ≡ bound_to fs token e ++ (in_expr index ++ in_expr value)
 element-known fs home at token (entity.Local unsigned) place index value fits =
     absurd (fits Shape (scalar_indexed AssignElement (binding token (entity.Local unsigned)) home at refl refl))
 element-known fs home at token (entity.Object class unsigned None) place index value fits =
@@ -106,7 +106,7 @@ element-known fs home at token (entity.Function result untrusted parameters) pla
     absurd (fits Shape (function_named AssignElement (binding token (entity.Function result untrusted parameters)) home at refl refl))
 
 pub element-bound : (fs : List ℕ) (home : Home) (at : ℕ) (means : Option Binding) (place : ℕ) (index value : Tree.Expr) → Fits AssignElement means home at →
-    in_stmt (assigned means place (Some index) value) ≡ bound fs means ++ (in_expr index ++ in_expr value)
+    in_stmt (assignment_to means place (Some index) value) ≡ bound fs means ++ (in_expr index ++ in_expr value)
 element-bound fs home at None place index value fits = absurd (fits Unknown (unknown AssignElement home at))
 element-bound fs home at (Some b) place index value fits = element-known fs home at b.token b.entity place index value fits
 
@@ -131,7 +131,7 @@ abbrev IfBound : Option Binding → Type 0
 IfBound None = Unit {0}
 IfBound (Some b) = TakesNone b.entity
 
-bound-or : (a b : Option Binding) → IfBound a → IfBound b → IfBound (or_else a b)
+bound-or : (a b : Option Binding) → IfBound a → IfBound b → IfBound (first_some a b)
 bound-or None b left right = right
 bound-or (Some x) b left right = left
 
@@ -191,7 +191,7 @@ binary-operands sign.LogicalAnd at level l r is = refl
 binary-operands sign.LogicalOr at level l r is = refl
 binary-operands other at level l r is = absurd (omega (arith, is))
 
-pub unary-operand : (op : Sign) (e : Typed) → is_unary_operator op ≡ true → in_expr (unary_of op e).expr ≡ in_expr e.expr
+pub unary-operand : (op : Sign) (e : Typed) → is_unary_operator op ≡ true → in_expr (unary_value op e).expr ≡ in_expr e.expr
 unary-operand sign.Minus e is = refl
 unary-operand sign.Tilde e is = refl
 unary-operand sign.Exclamation e is = refl

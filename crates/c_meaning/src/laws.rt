@@ -1,6 +1,8 @@
 //! Laws of checked programs with their names resolved.
 ghost use Rattle.c_meaning.specs.FunctionNumbers.{FunctionsListed, MainIsFound, NumbersCount, NumbersLead, ObjectsListed};
 ghost use Rattle.c_meaning.specs.Mentions.{NamesAgree};
+ghost use Rattle.c_meaning.specs.WellShaped.{AreWellShaped, FitLengths};
+ghost use Rattle.c_resolver.specs.Resolving.{plain_program};
 
 use c_types::Checked;
 
@@ -28,3 +30,12 @@ pub fn resolved_as_listed(p: &Checked)
     ensures functions { FunctionsListed p.now }
     ensures objects { ObjectsListed p.now }
 {}
+
+/// The shape of a resolved program: an array has 1 to 65,536 elements; a function has at most 6 parameters, each `break` and
+/// `continue` of it stands inside a loop, and no loop stands in the first part or the step of a `for`.
+pub fn resolved_is_well_shaped(p: &Checked)
+    ensures lengths { FitLengths (plain_program p.now).objects }
+    ensures functions { AreWellShaped (plain_program p.now).functions }
+{
+    p.program();
+}

@@ -104,11 +104,11 @@ binary_of sign.LogicalOr at l r = record { unsigned = false; expr = Tree.Either 
 binary_of other at l r = nothing
 
 -- an operator of one operand
-abbrev pub unary_of : Sign → Typed → Typed
-unary_of sign.Minus e = record { unsigned = e.unsigned; expr = Tree.Unary Neg e.expr }
-unary_of sign.Tilde e = record { unsigned = e.unsigned; expr = Tree.Unary Inv e.expr }
-unary_of sign.Exclamation e = record { unsigned = false; expr = Tree.Unary Not e.expr }
-unary_of other e = nothing
+abbrev pub unary_value : Sign → Typed → Typed
+unary_value sign.Minus e = record { unsigned = e.unsigned; expr = Tree.Unary Neg e.expr }
+unary_value sign.Tilde e = record { unsigned = e.unsigned; expr = Tree.Unary Inv e.expr }
+unary_value sign.Exclamation e = record { unsigned = false; expr = Tree.Unary Not e.expr }
+unary_value other e = nothing
 
 -- ---- names
 
@@ -160,7 +160,7 @@ expr_step functions (Expr-F.Index name index token) known = indexed (latest know
 expr_step functions (Expr-F.Call name arguments token) known = call_value functions (latest known name) (arguments_in arguments known)
 expr_step functions (Expr-F.Input token) known = record { unsigned = false; expr = Tree.Input }
 expr_step functions (Expr-F.Paren inner token) known = inner known
-expr_step functions (Expr-F.Unary op inner token) known = unary_of op (inner known)
+expr_step functions (Expr-F.Unary op inner token) known = unary_value op (inner known)
 expr_step functions (Expr-F.Binary op left right token) known = binary_of op token (left known) (right known)
 
 abbrev pub typed : List ℕ → Expr → Resolved
@@ -177,9 +177,9 @@ list_in functions (e ∷ es) known = Tree.Argument (typed functions e known).exp
 -- ---- statements
 
 -- an assignment to a name, which is token `at`; a sign `[` is the token after it, and token numbers are below 2 ^ 32
-abbrev pub assigned : Option Binding → ℕ → Option Tree.Expr → Tree.Expr → Tree.Stmt
-assigned None at index value = Tree.Empty
-assigned (Some b) at index value = go b.token b.entity index
+abbrev pub assignment_to : Option Binding → ℕ → Option Tree.Expr → Tree.Expr → Tree.Stmt
+assignment_to None at index value = Tree.Empty
+assignment_to (Some b) at index value = go b.token b.entity index
   where
     go : ℕ → Entity → Option Tree.Expr → Tree.Stmt
     go token (Local unsigned) None = Tree.Assign (variable_of token None) value
@@ -227,7 +227,7 @@ stmt_step functions (Stmt-F.Local unsigned name value token) = record {
   at = λ known. Tree.Local (variable_of token None) (part_in functions value known);
 }
 stmt_step functions (Stmt-F.Assign name index value token) =
-    only_resolved (λ known. assigned (latest known name) token (part_in functions index known) (typed functions value known).expr)
+    only_resolved (λ known. assignment_to (latest known name) token (part_in functions index known) (typed functions value known).expr)
 stmt_step functions (Stmt-F.Call name arguments token) = only_resolved (λ known. call_of functions (latest known name) (list_in functions arguments known))
 stmt_step functions (Stmt-F.Release value token) = only_resolved (λ known. Tree.Release (typed functions value known).expr)
 stmt_step functions (Stmt-F.Check token) = only_resolved (λ known. Tree.Check)

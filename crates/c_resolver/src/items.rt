@@ -1,6 +1,6 @@
 //! What items declare, with names resolved.
 ghost use Rattle.std.specs.Prelude.{◌≡◌, [], ◌∷◌, ◌++◌, IfOk, OnOk};
-ghost use Rattle.c_scopes.specs.Declarations.{class_of, declaration_of, declarations_of, entity_of, name_of, parameters_of, token_of};
+ghost use Rattle.c_scopes.specs.Declarations.{class_of, declaration_of, declarations_of, entity_of, item_name, parameters_of, token_of};
 ghost use Rattle.c_semantics.specs.ResolvedViews.{function_of, functions_of, objects_of};
 ghost use Rattle.c_resolver.specs.Resolving.{function_in, function_tokens, functions_in, main_token, objects_in, parameters_in, constant_word, constant_words};
 

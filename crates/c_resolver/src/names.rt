@@ -2,7 +2,7 @@
 ghost use Rattle.std.specs.Prelude.{◌≡◌, ◌+◌, ◌<◌, ◌^◌, Bool, IfOk, Some};
 ghost use Rattle.c_scopes.specs.declared.declaration.Entity.TheVariants as Entity;
 ghost use Rattle.c_semantics.specs.ResolvedViews.{expr_of, exprs_of, part_of, stmt_of};
-ghost use Rattle.c_resolver.specs.Resolving.{assigned, call_of, call_value, indexed, is_unsigned, named, function_number};
+ghost use Rattle.c_resolver.specs.Resolving.{assignment_to, call_of, call_value, indexed, is_unsigned, named, function_number};
 ghost use Rattle.c_resolver.specs.ResolvingViews.{typed_of};
 
 use crate::typed::{Typed, nothing, variable};
@@ -125,7 +125,7 @@ fn is_unsigned(kind: Kind3) -> bool
 
 /// An assignment to a name, which is token `at`. A sign `[` is the token after it.
 pub fn assigned(binding: Option<Binding>, at: u32, index: Option<Expr>, value: Expr) -> Stmt
-    ensures { stmt_of result ≡ assigned binding at (part_of index) (expr_of value) }
+    ensures { stmt_of result ≡ assignment_to binding at (part_of index) (expr_of value) }
 {
     match binding {
         None => Stmt::Empty,
@@ -157,7 +157,7 @@ fn assigned_global(
     index: Option<Expr>,
     value: Expr,
 ) -> Stmt
-    ensures { stmt_of result ≡ assigned (Some (record { token = token; entity = Entity.Object class unsigned length })) at (part_of index) (expr_of value) }
+    ensures { stmt_of result ≡ assignment_to (Some (record { token = token; entity = Entity.Object class unsigned length })) at (part_of index) (expr_of value) }
 {
     match index {
         None => Stmt::Assign {

@@ -1,7 +1,7 @@
 //! Operators by the types of their operands (ISO/IEC 9899, sections 6.3.1.8 and 6.5).
 ghost use Rattle.std.specs.Prelude.{◌≡◌, IfOk};
 ghost use Rattle.c_token.specs.declared.signs.Sign.TheVariants.{LogicalAnd, LogicalOr};
-ghost use Rattle.c_resolver.specs.Resolving.{arithmetic, binary_of, by_type, comparison, shift, unary_of};
+ghost use Rattle.c_resolver.specs.Resolving.{arithmetic, binary_of, by_type, comparison, shift, unary_value};
 ghost use Rattle.c_semantics.specs.ResolvedTree as Tree;
 ghost use Rattle.c_semantics.specs.ResolvedViews.{expr_of};
 ghost use Rattle.c_resolver.specs.ResolvingViews.{typed_of};
@@ -185,7 +185,7 @@ fn one_operand(
 
 /// An operator of one operand.
 pub fn unary(alloc: Global, op: Sign, inner: Typed) -> Result<Typed, OutOfMemory>
-    ensures { IfOk result (λ t. typed_of t ≡ unary_of op (typed_of inner)) }
+    ensures { IfOk result (λ t. typed_of t ≡ unary_value op (typed_of inner)) }
 {
     match op {
         Sign::Minus => one_operand(alloc, UnaryOp::Neg, inner.unsigned, inner.expr),

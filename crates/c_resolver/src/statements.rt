@@ -176,7 +176,7 @@ fn inside(
     Ok(Boxed::new(alloc, one)?)
 }
 
-/// The same of a statement that need not be there.
+/// A statement in a scope of its own, if it is there.
 #[cycle(resolve_statements)]
 fn branch_inside(
     alloc: Global,

@@ -11,7 +11,7 @@ use regions::Class;
 pub struct Typed {
     /// Whether its type is `unsigned`.
     pub unsigned: bool,
-    /// It.
+    /// The expression.
     pub expr: Expr,
 }
 

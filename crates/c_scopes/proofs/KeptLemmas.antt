@@ -9,7 +9,7 @@ use Rattle.c_scopes.specs.declared.declaration.Binding.{Binding}
 use Rattle.c_scopes.specs.declared.declaration.Declaration.{Declaration}
 use Rattle.c_scopes.specs.declared.names.Known.{Known}
 use Rattle.std.specs.Str.{bytes_eq}
-use Rattle.c_scopes.specs.Scopes.{or_else, latest, declares}
+use Rattle.c_scopes.specs.Scopes.{first_some, latest, declares}
 use Rattle.c_scopes.specs.KeptNames.{found, hidden_after, IsKept, last_hidden, name_eq}
 use Rattle.c_scopes.proofs.NameEquality.{names_compare}
 
@@ -18,7 +18,7 @@ binding_of None = None
 binding_of (Some known) = Some known.binding
 
 latest_step : (o : Option Known) (b : Bool) (binding : Binding) (place : ℕ) →
-    or_else (binding_of o) (cond b (Some binding) None) ≡ binding_of (or_else o (cond b (Some (record { binding = binding; place = place })) None))
+    first_some (binding_of o) (cond b (Some binding) None) ≡ binding_of (first_some o (cond b (Some (record { binding = binding; place = place })) None))
 latest_step None true binding place = refl
 latest_step None false binding place = refl
 latest_step (Some known) b binding place = refl
@@ -27,37 +27,37 @@ pub latest-found : (i : ℕ) (ds : List Declaration) (name : List ℕ) → lates
 unfolding found
 latest-found i [] name = refl
 latest-found i (d ∷ ds) name =
-    ap (λ o. or_else o (cond (bytes_eq d.name name) (Some d.binding) None)) (latest-found (i + 1) ds name)
+    ap (λ o. first_some o (cond (bytes_eq d.name name) (Some d.binding) None)) (latest-found (i + 1) ds name)
     ∙ latest_step (found (i + 1) ds name) (bytes_eq d.name name) d.binding i
 
-or_else-assoc : {A : Type 0} (x y z : Option A) → or_else (or_else x y) z ≡ or_else x (or_else y z)
-or_else-assoc None y z = refl
-or_else-assoc (Some x) y z = refl
+first_some-assoc : {A : Type 0} (x y z : Option A) → first_some (first_some x y) z ≡ first_some x (first_some y z)
+first_some-assoc None y z = refl
+first_some-assoc (Some x) y z = refl
 
-nothing_else : (o : Option Known) → or_else None o ≡ or_else o None
+nothing_else : (o : Option Known) → first_some None o ≡ first_some o None
 nothing_else None = refl
 nothing_else (Some known) = refl
 
 pub found-more : (i : ℕ) (ds : List Declaration) (d : Declaration) (name : List ℕ) →
     found i (ds ++ d ∷ []) name
-    ≡ or_else (cond (bytes_eq d.name name) (Some (record { binding = d.binding; place = i + length ds })) None) (found i ds name)
+    ≡ first_some (cond (bytes_eq d.name name) (Some (record { binding = d.binding; place = i + length ds })) None) (found i ds name)
 unfolding found
 found-more i [] d name =
     let e : i + 0 ≡ i = omega arith in
     rw e (nothing_else (cond (bytes_eq d.name name) (Some (record { binding = d.binding; place = i })) None))
 found-more i (x ∷ ds) d name =
     let e : i + 1 + length ds ≡ i + suc (length ds) = omega arith in
-    ap (λ o. or_else o (cond (bytes_eq x.name name) (Some (record { binding = x.binding; place = i })) None)) (found-more (i + 1) ds d name)
-    ∙ or_else-assoc (cond (bytes_eq d.name name) (Some (record { binding = d.binding; place = i + 1 + length ds })) None) (found (i + 1) ds name) (cond (bytes_eq x.name name) (Some (record { binding = x.binding; place = i })) None)
-    ∙ ap (λ n. or_else (cond (bytes_eq d.name name) (Some (record { binding = d.binding; place = n })) None) (or_else (found (i + 1) ds name) (cond (bytes_eq x.name name) (Some (record { binding = x.binding; place = i })) None))) e
+    ap (λ o. first_some o (cond (bytes_eq x.name name) (Some (record { binding = x.binding; place = i })) None)) (found-more (i + 1) ds d name)
+    ∙ first_some-assoc (cond (bytes_eq d.name name) (Some (record { binding = d.binding; place = i + 1 + length ds })) None) (found (i + 1) ds name) (cond (bytes_eq x.name name) (Some (record { binding = x.binding; place = i })) None)
+    ∙ ap (λ n. first_some (cond (bytes_eq d.name name) (Some (record { binding = d.binding; place = n })) None) (first_some (found (i + 1) ds name) (cond (bytes_eq x.name name) (Some (record { binding = x.binding; place = i })) None))) e
 
 found-push : (ds : List Declaration) (d : Declaration) (name : List ℕ) →
     found 0 (ds ++ d ∷ []) name
-    ≡ or_else (cond (bytes_eq d.name name) (Some (record { binding = d.binding; place = length ds })) None) (found 0 ds name)
+    ≡ first_some (cond (bytes_eq d.name name) (Some (record { binding = d.binding; place = length ds })) None) (found 0 ds name)
 found-push ds d name =
     let e : 0 + length ds ≡ length ds = omega arith in
     found-more 0 ds d name
-    ∙ ap (λ n. or_else (cond (bytes_eq d.name name) (Some (record { binding = d.binding; place = n })) None) (found 0 ds name)) e
+    ∙ ap (λ n. first_some (cond (bytes_eq d.name name) (Some (record { binding = d.binding; place = n })) None) (found 0 ds name)) e
 
 pub hidden_after-more : (before ds : List Declaration) (d : Declaration) →
     hidden_after before (ds ++ d ∷ []) ≡ hidden_after before ds ++ found 0 (before ++ ds) d.name ∷ []
@@ -76,7 +76,7 @@ abbrev pub reaches : ℕ → Option Known → Bool
 reaches i None = false
 reaches i (Some known) = nat_le i known.place
 
-at_least_step : (o : Option Known) (b : Bool) (binding : Binding) (i : ℕ) → AtLeast (i + 1) o → AtLeast i (or_else o (cond b (Some (record { binding = binding; place = i })) None))
+at_least_step : (o : Option Known) (b : Bool) (binding : Binding) (i : ℕ) → AtLeast (i + 1) o → AtLeast i (first_some o (cond b (Some (record { binding = binding; place = i })) None))
 at_least_step None true binding i h = omega arith
 at_least_step None false binding i h = tt
 at_least_step (Some known) b binding i h = omega arith
@@ -87,14 +87,14 @@ found-AtLeast i [] name = tt
 found-AtLeast i (d ∷ ds) name = at_least_step (found (i + 1) ds name) (bytes_eq d.name name) d.binding i (found-AtLeast (i + 1) ds name)
 
 first_step : (o : Option Known) (b rest : Bool) (binding : Binding) (i : ℕ) → AtLeast (i + 1) o → rest ≡ reaches (i + 1) o →
-    (b || rest) ≡ reaches i (or_else o (cond b (Some (record { binding = binding; place = i })) None))
+    (b || rest) ≡ reaches i (first_some o (cond b (Some (record { binding = binding; place = i })) None))
 first_step None true rest binding i h e = grind (arith, nat_tests)
 first_step None false rest binding i h e = e
 first_step (Some known) true rest binding i h e = grind (arith, nat_tests)
 first_step (Some known) false rest binding i h e = grind (arith, nat_tests)
 
 later_step : (o : Option Known) (b rest : Bool) (binding : Binding) (i s : ℕ) → rest ≡ reaches (s + (i + 1)) o →
-    rest ≡ reaches (suc s + i) (or_else o (cond b (Some (record { binding = binding; place = i })) None))
+    rest ≡ reaches (suc s + i) (first_some o (cond b (Some (record { binding = binding; place = i })) None))
 later_step None true rest binding i s e = grind (arith, nat_tests)
 later_step None false rest binding i s e = e
 later_step (Some known) b rest binding i s e = grind (arith, nat_tests)
@@ -121,7 +121,7 @@ IsKept-none known declared hidden e f g = record {
   hides = rw (f, g) refl;
 }
 
-chosen : (b : Bool) (x : Known) (o : Option Known) → cond b (Some x) o ≡ or_else (cond b (Some x) None) o
+chosen : (b : Bool) (x : Known) (o : Option Known) → cond b (Some x) o ≡ first_some (cond b (Some x) None) o
 chosen true x o = refl
 chosen false x o = refl
 
@@ -154,7 +154,7 @@ last-append (a ∷ xs) (b ∷ ys) x y e =
 found-same : (i : ℕ) (ds : List Declaration) (a b : List ℕ) → bytes_eq a b ≡ true → found i ds a ≡ found i ds b
 found-same i ds a b same = ap (found i ds) ((bytes_decides a b).0 same)
 
-back : (b : Bool) (h o f g : Option Known) (x : Known) → h ≡ f → (b ≡ true → f ≡ g) → o ≡ or_else (cond b (Some x) None) g → cond b h o ≡ g
+back : (b : Bool) (h o f g : Option Known) (x : Known) → h ≡ f → (b ≡ true → f ≡ g) → o ≡ first_some (cond b (Some x) None) g → cond b h o ≡ g
 back true h o f g x e same was = e ∙ same refl
 back false h o f g x e same was = was
 

@@ -27,11 +27,11 @@ entity_of (item.Untrusted name token) = Function Void true 0
 entity_of (item.Function private result name parameters body token) = Function result false (length parameters)
 
 -- the name of an item
-abbrev pub name_of : Item → List ℕ
-name_of (item.Object storage unsigned name length token) = name
-name_of (item.Constant unsigned name length values braces token) = name
-name_of (item.Untrusted name token) = name
-name_of (item.Function private result name parameters body token) = name
+abbrev pub item_name : Item → List ℕ
+item_name (item.Object storage unsigned name length token) = name
+item_name (item.Constant unsigned name length values braces token) = name
+item_name (item.Untrusted name token) = name
+item_name (item.Function private result name parameters body token) = name
 
 -- the token of the name of an item
 abbrev pub token_of : Item → ℕ
@@ -42,7 +42,7 @@ token_of (item.Function private result name parameters body token) = token
 
 -- what an item declares
 abbrev pub declaration_of : Item → Declaration
-declaration_of item = record { name = name_of item; binding = record { token = token_of item; entity = entity_of item } }
+declaration_of item = record { name = item_name item; binding = record { token = token_of item; entity = entity_of item } }
 
 -- what items declare
 abbrev pub declarations_of : List Item → List Declaration

@@ -5,13 +5,13 @@ use Rattle.std.specs.HashMap.{HashMap, get}
 use Rattle.aegis_num.specs.contracts.name.NamePartialEq.TheImpl.{eq-value}
 use Rattle.c_scopes.specs.declared.declaration.Declaration.{Declaration}
 use Rattle.c_scopes.specs.declared.names.Known.{Known}
-use Rattle.c_scopes.specs.Scopes.{or_else}
+use Rattle.c_scopes.specs.Scopes.{first_some}
 
 -- the latest declaration of a name, with its number, where the first has this one
 unfoldable pub found : ℕ → List Declaration → List ℕ → Option Known
 found place [] name = None
 found place (d ∷ ds) name =
-    or_else (found (place + 1) ds name) (if bytes_eq d.name name then Some (record { binding = d.binding; place = place }) else None)
+    first_some (found (place + 1) ds name) (if bytes_eq d.name name then Some (record { binding = d.binding; place = place }) else None)
 
 -- what each of these declarations hides, where the others stand before them
 unfoldable pub hidden_after : List Declaration → List Declaration → List (Option Known)

@@ -7,14 +7,14 @@ use Rattle.c_scopes.specs.declared.declaration.Binding.{Binding}
 use Rattle.c_scopes.specs.declared.declaration.Declaration.{Declaration}
 
 -- the first, or else the second
-abbrev pub or_else : {A : Type 0} → Option A → Option A → Option A
-or_else (Some x) other = Some x
-or_else None other = other
+abbrev pub first_some : {A : Type 0} → Option A → Option A → Option A
+first_some (Some x) other = Some x
+first_some None other = other
 
 -- what a name is bound to: the latest declaration of it
 abbrev pub latest : List Declaration → List ℕ → Option Binding
 latest [] name = None
-latest (d ∷ ds) name = or_else (latest ds name) (if bytes_eq d.name name then Some d.binding else None)
+latest (d ∷ ds) name = first_some (latest ds name) (if bytes_eq d.name name then Some d.binding else None)
 
 -- whether a name is declared among these
 abbrev pub declares : List Declaration → List ℕ → Bool

@@ -1,6 +1,6 @@
 //! What items, locals and parameters declare.
 ghost use Rattle.std.specs.Prelude.{◌≡◌};
-ghost use Rattle.c_scopes.specs.Declarations.{class_of, declaration_of, entity_of, local, name_of, token_of};
+ghost use Rattle.c_scopes.specs.Declarations.{class_of, declaration_of, entity_of, local, item_name, token_of};
 
 use crate::declaration::{Binding, Declaration, Entity};
 use aegis_num::Name;
@@ -58,7 +58,7 @@ pub fn entity_of(item: &Item) -> Entity
 
 /// The name of an item.
 pub fn name_of(item: &Item) -> &Name
-    ensures { result.now ≡ name_of item.now }
+    ensures { result.now ≡ item_name item.now }
 {
     match item {
         Item::Object { name, .. }

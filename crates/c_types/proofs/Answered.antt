@@ -77,7 +77,7 @@ seventh p before after private result name ps body token all long keeps =
     (by_site before function (global ∷ has.front) (site.Parameter 6 has.again has.at) (record { after = after; all = all })
     (record { back = has.back ++ rest; all = sites }) refl (parameter_too_many 6 has.at has.again refl))
 
-few : (p : Program) (before after : List Item) (x : Item) → p.items ≡ before ++ x ∷ after → KeepsRules p → HasFewParameters x
+pub few : (p : Program) (before after : List Item) (x : Item) → p.items ≡ before ++ x ∷ after → KeepsRules p → HasFewParameters x
 few p before after (item.Object storage unsigned name length token) all keeps = tt
 few p before after (item.Constant unsigned name length values braces token) all keeps = tt
 few p before after (item.Untrusted name token) all keeps = tt

@@ -18,13 +18,13 @@ use Rattle.c_types.specs.declared.site.Site.{Site}
 use Rattle.c_types.specs.declared.site.Site.TheVariants as site
 use Rattle.c_types.specs.declared.verdict.Fault.{Fault}
 use Rattle.c_types.specs.declared.verdict.Verdict.{Verdict}
-use Rattle.c_types.specs.TypingRules.{is_call, is_whole, is_indexed, is_assignment, is_function, is_array, is_scalar, is_constant, is_private, is_void, is_without_value, HasArguments, Breaks, Stands, Violates, IsFirst, at_token, is_local, rule_order}
+use Rattle.c_types.specs.TypingRules.{is_call, is_whole, is_indexed, is_assignment, is_function, is_array, is_scalar, is_constant, is_private_object, is_void, is_without_value, HasArguments, Breaks, Stands, Violates, IsFirst, at_token, is_local, rule_order}
 use Rattle.c_types.specs.TypingRules.Breaks.{unknown, twice_local, twice_parameter, twice_global, self_call, constant_assigned, private_outside, array_whole, scalar_indexed, object_called, function_named, no_value, list_for_scalar, value_for_array, values_too_many, value_returned, nothing_returned, outside_loop, other_number, no_elements, too_long, global_too_many, parameter_too_many}
 use Rattle.c_types.specs.Verdicts.{misfits, differs_from, miscounts, is_barred, known_rule, use_rule, name_rule, shape_rule, misgiven, misreturns, site_rule, one_more, locals_after, is_sooner, sooner, with_rule, note, noted, afresh}
 use Rattle.c_scopes.specs.Declarations.{declaration_of, declarations_of}
-use Rattle.c_types.specs.Sites.{Follows, item_sites}
+use Rattle.c_types.specs.Sites.{ItemFollows, item_sites}
 use Rattle.c_types.specs.Walks.{items_noted}
-use Rattle.c_types.specs.Walks.{start, first_of}
+use Rattle.c_types.specs.Walks.{start, first_fault_of}
 use Rattle.c_types.specs.Checked.{KeepsRules}
 use Rattle.c_types.specs.TypingRules.Violates.{by_site, local_too_many}
 use Rattle.c_types.proofs.Noted.{noted_append}
@@ -159,10 +159,10 @@ breaks_told locals _ _ (self_call how d home at call same) =
     (and_true (is_call how) (d.token == home.token) call (is_same d.token home.token same))
 breaks_told locals _ _ (constant_assigned how d home at assigned constant) =
     class_told (is_call how && (d.token == home.token)) (is_barred how d.entity home) (misfits how d.entity) (miscounts how d.entity)
-    (barred_left (is_assignment how) (is_constant d.entity) (is_private d.entity) (not home.private) assigned constant)
+    (barred_left (is_assignment how) (is_constant d.entity) (is_private_object d.entity) (not home.private) assigned constant)
 breaks_told locals _ _ (private_outside how d home at private outside) =
     class_told (is_call how && (d.token == home.token)) (is_barred how d.entity home) (misfits how d.entity) (miscounts how d.entity)
-    (barred_right (is_assignment how) (is_constant d.entity) (is_private d.entity) home.private private outside)
+    (barred_right (is_assignment how) (is_constant d.entity) (is_private_object d.entity) home.private private outside)
 breaks_told locals _ _ (array_whole how d home at whole array) =
     shape_told (is_call how && (d.token == home.token)) (is_barred how d.entity home) (misfits how d.entity) (miscounts how d.entity)
     (whole_misfits how d.entity whole array)
@@ -242,9 +242,9 @@ known_cases false false false false rule e = absurd (cc)
 
 barred_breaks : (how : How) (d : Binding) (home : Home) (at : ℕ) → is_barred how d.entity home ≡ true → Breaks (site.Use how (Some d) home at) Class
 barred_breaks how d home at e =
-    elim (or_cases (is_assignment how && is_constant d.entity) (is_private d.entity && not home.private) e) [
+    elim (or_cases (is_assignment how && is_constant d.entity) (is_private_object d.entity && not home.private) e) [
       | inl h ↦ constant_assigned how d home at (and_left (is_assignment how) (is_constant d.entity) h) (and_right (is_assignment how) (is_constant d.entity) h)
-      | inr h ↦ private_outside how d home at (and_left (is_private d.entity) (not home.private) h) (not_true home.private (and_right (is_private d.entity) (not home.private) h))
+      | inr h ↦ private_outside how d home at (and_left (is_private_object d.entity) (not home.private) h) (not_true home.private (and_right (is_private_object d.entity) (not home.private) h))
     ]
 
 misfit_breaks : (how : How) (d : Binding) (home : Home) (at : ℕ) → misfits how d.entity ≡ true → Breaks (site.Use how (Some d) home at) Shape
@@ -611,7 +611,7 @@ Comes-from before (x ∷ more) item after v at rule shows =
     (λ w. subst (λ xs. Comes (noted (afresh w) (item_sites xs item)).first at rule) (sym (append_assoc before (x ∷ []) more)) (shows w)))
 
 -- each violation is found, or something sooner is
-Comes-violation : (p : Program) (at : ℕ) (rule : Rule) → Violates p at rule → Comes (first_of p.items) at rule
+Comes-violation : (p : Program) (at : ℕ) (rule : Rule) → Violates p at rule → Comes (first_fault_of p.items) at rule
 Comes-violation p at rule (by_site before item front s follows stands place breaks) =
     rw follows.all
     (Comes-from [] before item follows.after start at rule
@@ -622,7 +622,7 @@ Comes-violation p at rule (local_too_many before item front s follows stands pla
     (λ w. rw stands.all (subst (λ n. Comes (noted (afresh w) (front ++ s ∷ stands.back)).first n TooMany) place (Comes-local (afresh w) front stands.back s refl is_one count))))
 
 -- what is found is a violation
-violates : (p : Program) (before : List Item) (item : Item) (v : Verdict) (f : Fault) → Follows p before item → Found (afresh v) (item_sites before item) f → Violates p f.at f.rule
+violates : (p : Program) (before : List Item) (item : Item) (v : Verdict) (f : Fault) → ItemFollows p before item → Found (afresh v) (item_sites before item) f → Violates p f.at f.rule
 violates p before item v f follows found =
     let stands : Stands (item_sites before item) found.front found.s = record { back = found.back; all = found.all } in
     elim (told_breaks (noted (afresh v) found.front).locals found.s f.rule found.told) [
@@ -637,7 +637,7 @@ found_violates : (p : Program) (before items : List Item) (v : Verdict) (f : Fau
     (items_noted (length before) (declarations_of before) items v).first ≡ Some f → (v.first ≡ Some f) ⊎ Violates p f.at f.rule
 found_violates p before [] v f all e = inl e
 found_violates p before (item ∷ items) v f all e =
-    let follows : Follows p before item = record { after = items; all = all } in
+    let follows : ItemFollows p before item = record { after = items; all = all } in
     let again = found_violates p (before ++ item ∷ []) items (noted (afresh v) (item_sites before item)) f
     (all ∙ sym (append_assoc before (item ∷ []) items)) (ap (λ w. w.first) (sym (items_step before item items v)) ∙ e) in
     elim again [
@@ -650,7 +650,7 @@ found_violates p before (item ∷ items) v f all e =
 
 -- ---- the first violation
 
-pub first_is : (p : Program) (f : Fault) → first_of p.items ≡ Some f → IsFirst p f.at f.rule
+pub first_is : (p : Program) (f : Fault) → first_fault_of p.items ≡ Some f → IsFirst p f.at f.rule
 first_is p f e = record {
   violates = elim (found_violates p [] p.items start f refl e) [
     | inl h ↦ absurd (cc)
@@ -659,5 +659,5 @@ first_is p f e = record {
   least = λ at rule violates. subst (λ first. Comes first at rule) e (Comes-violation p at rule violates);
 }
 
-pub none_is : (p : Program) → first_of p.items ≡ None → KeepsRules p
+pub none_is : (p : Program) → first_fault_of p.items ≡ None → KeepsRules p
 none_is p e = λ at rule violates. subst (λ first. Comes first at rule) e (Comes-violation p at rule violates)

@@ -6,7 +6,7 @@ use Rattle.c_scopes.specs.declared.declaration.Declaration.{Declaration}
 use Rattle.c_types.specs.declared.site.Home.{Home}
 use Rattle.c_grammar.specs.declared.stmt.Stmt.{Stmt}
 use Rattle.c_grammar.specs.declared.stmt.Stmt.TheVariants as stmt
-use Rattle.c_types.specs.Sites.{expr_sites, list_sites, part_sites, Place, inside, looped, place_after, stmt_sites, branch_sites, body_sites}
+use Rattle.c_types.specs.Sites.{expr_sites, list_sites, part_sites, Place, inner_scope, looped, place_after, stmt_sites, branch_sites, body_sites}
 use Rattle.c_types.specs.Walks.{declared_in}
 use Rattle.c_types.proofs.Equations.{stmt_sites-If, stmt_sites-While, stmt_sites-For}
 use Rattle.c_types.specs.declared.site.Site.{Site}
@@ -39,12 +39,12 @@ body_step v ss i s place within is =
 
 -- the parts of an `if` and of loops
 pub if_parts : (v v1 v2 v3 : Verdict) (place : Place) (test : Expr) (body : Stmt) (other : Option Stmt) (token : ℕ) →
-    v1 ≡ noted v (expr_sites test place.scope.known place.home) → v2 ≡ noted v1 ((stmt_sites body).sites (inside place)) →
-    v3 ≡ noted v2 ((branch_sites other).sites (inside place)) → v3 ≡ noted v ((stmt_sites (stmt.If test body other token)).sites place)
+    v1 ≡ noted v (expr_sites test place.scope.known place.home) → v2 ≡ noted v1 ((stmt_sites body).sites (inner_scope place)) →
+    v3 ≡ noted v2 ((branch_sites other).sites (inner_scope place)) → v3 ≡ noted v ((stmt_sites (stmt.If test body other token)).sites place)
 if_parts v v1 v2 v3 place test body other token e1 e2 e3 =
     let a = expr_sites test place.scope.known place.home in
-    let b = (stmt_sites body).sites (inside place) in
-    let c = (branch_sites other).sites (inside place) in
+    let b = (stmt_sites body).sites (inner_scope place) in
+    let c = (branch_sites other).sites (inner_scope place) in
     e3 ∙ ap (λ x. noted x c) (e2 ∙ ap (λ x. noted x b) e1 ∙ sym (noted_append v a b)) ∙ sym (noted_append v (a ++ b) c)
     ∙ ap (λ s. noted v (s.sites place)) (sym (stmt_sites-If test body other token))
 
@@ -57,15 +57,15 @@ while_parts v v1 v2 place test body token e1 e2 =
     e2 ∙ ap (λ x. noted x b) e1 ∙ sym (noted_append v a b) ∙ ap (λ s. noted v (s.sites place)) (sym (stmt_sites-While test body token))
 
 pub for_parts : (v v1 v2 v3 v4 : Verdict) (place around : Place) (first step : Option Stmt) (test : Option Expr) (body : Stmt) (token : ℕ) →
-    around ≡ place_after (branch_sites first).declared (inside place) →
-    v1 ≡ noted v ((branch_sites first).sites (inside place)) → v2 ≡ noted v1 (part_sites test around.scope.known around.home) →
-    v3 ≡ noted v2 ((branch_sites step).sites (inside around)) → v4 ≡ noted v3 ((stmt_sites body).sites (looped around)) →
+    around ≡ place_after (branch_sites first).declared (inner_scope place) →
+    v1 ≡ noted v ((branch_sites first).sites (inner_scope place)) → v2 ≡ noted v1 (part_sites test around.scope.known around.home) →
+    v3 ≡ noted v2 ((branch_sites step).sites (inner_scope around)) → v4 ≡ noted v3 ((stmt_sites body).sites (looped around)) →
     v4 ≡ noted v ((stmt_sites (stmt.For first test step body token)).sites place)
 for_parts v v1 v2 v3 v4 place around first step test body token is e1 e2 e3 e4 =
-    let f = (branch_sites first).sites (inside place) in
-    let rest : Place → List Site = λ p. part_sites test p.scope.known p.home ++ (branch_sites step).sites (inside p) ++ (stmt_sites body).sites (looped p) in
+    let f = (branch_sites first).sites (inner_scope place) in
+    let rest : Place → List Site = λ p. part_sites test p.scope.known p.home ++ (branch_sites step).sites (inner_scope p) ++ (stmt_sites body).sites (looped p) in
     let a = part_sites test around.scope.known around.home in
-    let b = (branch_sites step).sites (inside around) in
+    let b = (branch_sites step).sites (inner_scope around) in
     let c = (stmt_sites body).sites (looped around) in
     e4 ∙ ap (λ x. noted x c) (e3 ∙ ap (λ x. noted x b) e2 ∙ sym (noted_append v1 a b)) ∙ sym (noted_append v1 (a ++ b) c)
     ∙ ap (λ x. noted x (rest around)) e1 ∙ sym (noted_append v f (rest around))

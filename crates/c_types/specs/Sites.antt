@@ -19,7 +19,7 @@ use Rattle.c_grammar.specs.declared.item.Program.{Program}
 use Rattle.c_scopes.specs.declared.declaration.Declaration.{Declaration}
 use Rattle.c_scopes.specs.declared.declaration.Entity.{Entity}
 use Rattle.c_scopes.specs.declared.declaration.Entity.TheVariants.{Local, Object, Function}
-use Rattle.c_scopes.specs.Declarations.{local, name_of, token_of, declaration_of, declarations_of, parameter, parameters_of}
+use Rattle.c_scopes.specs.Declarations.{local, item_name, token_of, declaration_of, declarations_of, parameter, parameters_of}
 use Rattle.c_types.specs.declared.site.Home.{Home}
 use Rattle.c_types.specs.declared.site.How.{How}
 use Rattle.c_types.specs.declared.site.How.TheVariants.{Value, Element, Assign, AssignElement, Call, CallValue}
@@ -41,20 +41,20 @@ exprs_in_turn [] known home = []
 exprs_in_turn (e ∷ es) known home = e known home ++ exprs_in_turn es known home
 
 -- the name of an indexed array stands before the sign `[`
-abbrev pub expr_step : Expr-F ExprSites → ExprSites
-expr_step (Expr-F.Number value unsigned token) known home = []
-expr_step (Expr-F.Name name token) known home = use_of Value known home name token ∷ []
-expr_step (Expr-F.Index name index token) known home = use_of Element known home name (token - 1) ∷ index known home
-expr_step (Expr-F.Call name arguments token) known home =
+abbrev pub expr_sites_step : Expr-F ExprSites → ExprSites
+expr_sites_step (Expr-F.Number value unsigned token) known home = []
+expr_sites_step (Expr-F.Name name token) known home = use_of Value known home name token ∷ []
+expr_sites_step (Expr-F.Index name index token) known home = use_of Element known home name (token - 1) ∷ index known home
+expr_sites_step (Expr-F.Call name arguments token) known home =
     use_of (CallValue (length arguments)) known home name token ∷ exprs_in_turn arguments known home
-expr_step (Expr-F.Input token) known home = []
-expr_step (Expr-F.Paren inner token) known home = inner known home
-expr_step (Expr-F.Unary op inner token) known home = inner known home
-expr_step (Expr-F.Binary op left right token) known home = left known home ++ right known home
+expr_sites_step (Expr-F.Input token) known home = []
+expr_sites_step (Expr-F.Paren inner token) known home = inner known home
+expr_sites_step (Expr-F.Unary op inner token) known home = inner known home
+expr_sites_step (Expr-F.Binary op left right token) known home = left known home ++ right known home
 
 -- the sites of an expression
 abbrev pub expr_sites : Expr → ExprSites
-expr_sites = fold-Expr ExprSites expr_step
+expr_sites = fold-Expr ExprSites expr_sites_step
 
 -- the sites of an expression that need not be there
 abbrev pub part_sites : Option Expr → ExprSites
@@ -72,17 +72,17 @@ pub record Place : Type 0 where
   pub home : Home
   pub in_loop : Bool
 
--- the same place, once these are declared in its scope
+-- a place, once these are declared in its scope
 abbrev pub place_after : List Declaration → Place → Place
 place_after ds place = record place { scope = record { known = place.scope.known ++ ds; start = place.scope.start } }
 
 -- a new scope at a place
-abbrev pub inside : Place → Place
-inside place = record place { scope = record { known = place.scope.known; start = length place.scope.known } }
+abbrev pub inner_scope : Place → Place
+inner_scope place = record place { scope = record { known = place.scope.known; start = length place.scope.known } }
 
 -- a new scope inside a loop at a place
 abbrev pub looped : Place → Place
-looped place = record (inside place) { in_loop = true }
+looped place = record (inner_scope place) { in_loop = true }
 
 -- of a statement: what it declares in its scope, and its sites where it stands
 pub record StmtSites : Type 0 where
@@ -109,39 +109,39 @@ assign None = Assign
 assign (Some index) = AssignElement
 
 -- Each part of an `if` or of a loop is a scope of its own, and a `for` is one around its parts.
-abbrev pub stmt_step : Stmt-F StmtSites → StmtSites
-stmt_step (Stmt-F.Block body token) = only_sites (λ place. stmts_in_turn body (inside place))
-stmt_step (Stmt-F.Empty token) = only_sites (λ place. [])
-stmt_step (Stmt-F.Local unsigned name value token) = record {
+abbrev pub stmt_sites_step : Stmt-F StmtSites → StmtSites
+stmt_sites_step (Stmt-F.Block body token) = only_sites (λ place. stmts_in_turn body (inner_scope place))
+stmt_sites_step (Stmt-F.Empty token) = only_sites (λ place. [])
+stmt_sites_step (Stmt-F.Local unsigned name value token) = record {
   declared = local unsigned name token ∷ [];
   sites = λ place. site.Local (is_again place.scope name) token ∷ part_sites value place.scope.known place.home;
 }
-stmt_step (Stmt-F.Assign name index value token) = only_sites (λ place.
+stmt_sites_step (Stmt-F.Assign name index value token) = only_sites (λ place.
     use_of (assign index) place.scope.known place.home name token
     ∷ (part_sites index place.scope.known place.home ++ expr_sites value place.scope.known place.home))
-stmt_step (Stmt-F.Call name arguments token) = only_sites (λ place.
+stmt_sites_step (Stmt-F.Call name arguments token) = only_sites (λ place.
     use_of (Call (length arguments)) place.scope.known place.home name token
     ∷ list_sites arguments place.scope.known place.home)
-stmt_step (Stmt-F.Release value token) = only_sites (λ place. expr_sites value place.scope.known place.home)
-stmt_step (Stmt-F.Check token) = only_sites (λ place. [])
-stmt_step (Stmt-F.Return value token) = only_sites (λ place.
+stmt_sites_step (Stmt-F.Release value token) = only_sites (λ place. expr_sites value place.scope.known place.home)
+stmt_sites_step (Stmt-F.Check token) = only_sites (λ place. [])
+stmt_sites_step (Stmt-F.Return value token) = only_sites (λ place.
     site.Return place.home.result (is_some value) token ∷ part_sites value place.scope.known place.home)
-stmt_step (Stmt-F.Break token) = only_sites (λ place. site.Jump place.in_loop token ∷ [])
-stmt_step (Stmt-F.Continue token) = only_sites (λ place. site.Jump place.in_loop token ∷ [])
-stmt_step (Stmt-F.If test body other token) = only_sites (λ place.
-    expr_sites test place.scope.known place.home ++ body.sites (inside place) ++ (sites_if_any other).sites (inside place))
-stmt_step (Stmt-F.While test body token) = only_sites (λ place.
+stmt_sites_step (Stmt-F.Break token) = only_sites (λ place. site.Jump place.in_loop token ∷ [])
+stmt_sites_step (Stmt-F.Continue token) = only_sites (λ place. site.Jump place.in_loop token ∷ [])
+stmt_sites_step (Stmt-F.If test body other token) = only_sites (λ place.
+    expr_sites test place.scope.known place.home ++ body.sites (inner_scope place) ++ (sites_if_any other).sites (inner_scope place))
+stmt_sites_step (Stmt-F.While test body token) = only_sites (λ place.
     expr_sites test place.scope.known place.home ++ body.sites (looped place))
-stmt_step (Stmt-F.For first test step body token) = only_sites (λ place.
-    let around = place_after (sites_if_any first).declared (inside place) in
-    (sites_if_any first).sites (inside place)
-    ++ (part_sites test around.scope.known around.home ++ (sites_if_any step).sites (inside around) ++ body.sites (looped around)))
+stmt_sites_step (Stmt-F.For first test step body token) = only_sites (λ place.
+    let around = place_after (sites_if_any first).declared (inner_scope place) in
+    (sites_if_any first).sites (inner_scope place)
+    ++ (part_sites test around.scope.known around.home ++ (sites_if_any step).sites (inner_scope around) ++ body.sites (looped around)))
 
 -- what a statement declares in its scope, and its sites
 abbrev pub stmt_sites : Stmt → StmtSites
-stmt_sites = fold-Stmt StmtSites stmt_step
+stmt_sites = fold-Stmt StmtSites stmt_sites_step
 
--- the same of a statement that need not be there
+-- what a statement that need not be there declares, and its sites
 abbrev pub branch_sites : Option Stmt → StmtSites
 branch_sites None = only_sites (λ place. [])
 branch_sites (Some s) = stmt_sites s
@@ -183,13 +183,13 @@ inner_sites known (item.Function private result name parameters body token) =
 -- the sites of an item, where these are known and so many items stand before it: its own name is known inside it
 abbrev pub global_sites : ℕ → List Declaration → Item → List Site
 global_sites number known item =
-    site.Global number (declares known (name_of item)) (token_of item) ∷ inner_sites (known ++ declaration_of item ∷ []) item
+    site.Global number (declares known (item_name item)) (token_of item) ∷ inner_sites (known ++ declaration_of item ∷ []) item
 
 -- the sites of an item after others
 abbrev pub item_sites : List Item → Item → List Site
 item_sites before item = global_sites (length before) (declarations_of before) item
 
 -- an item of a program, and the items before it
-pub record Follows (p : Program) (before : List Item) (item : Item) : Type 0 where
+pub record ItemFollows (p : Program) (before : List Item) (item : Item) : Type 0 where
   pub after : List Item
   pub all : p.items ≡ before ++ item ∷ after

@@ -17,7 +17,7 @@ use Rattle.c_types.specs.declared.site.Rule.{Rule}
 use Rattle.c_types.specs.declared.site.Rule.TheVariants.{Unknown, Twice, Recursive, Class as ByClass, Shape, Arity, TooLong, TooMany}
 use Rattle.c_types.specs.declared.site.Site.{Site}
 use Rattle.c_types.specs.declared.site.Site.TheVariants as site
-use Rattle.c_types.specs.Sites.{Follows, item_sites}
+use Rattle.c_types.specs.Sites.{ItemFollows, item_sites}
 
 -- ---- uses of names
 
@@ -94,10 +94,10 @@ is_constant (Local unsigned) = false
 is_constant (Object class unsigned length) = is_constant_class class
 is_constant (Function result untrusted parameters) = false
 
-abbrev pub is_private : Entity → Bool
-is_private (Local unsigned) = false
-is_private (Object class unsigned length) = is_private_class class
-is_private (Function result untrusted parameters) = false
+abbrev pub is_private_object : Entity → Bool
+is_private_object (Local unsigned) = false
+is_private_object (Object class unsigned length) = is_private_class class
+is_private_object (Function result untrusted parameters) = false
 
 abbrev pub is_void : Kind3 → Bool
 is_void Int = false
@@ -137,7 +137,7 @@ pub data Breaks : Site → Rule → Type 0 where
       is_assignment how ≡ true → is_constant d.entity ≡ true → Breaks (site.Use how (Some d) home at) ByClass
   -- a private object used outside a private function
   private_outside : (how : How) (d : Binding) (home : Home) (at : ℕ) →
-      is_private d.entity ≡ true → home.private ≡ false → Breaks (site.Use how (Some d) home at) ByClass
+      is_private_object d.entity ≡ true → home.private ≡ false → Breaks (site.Use how (Some d) home at) ByClass
   -- an array without an index
   array_whole : (how : How) (d : Binding) (home : Home) (at : ℕ) →
       is_whole how ≡ true → is_array d.entity ≡ true → Breaks (site.Use how (Some d) home at) Shape
@@ -210,9 +210,9 @@ pub record Stands (sites front : List Site) (s : Site) : Type 0 where
 -- A program breaks a rule at a token: by what stands at a site of one of its items, or because 256 locals and
 -- parameters of the item stand before the one that is declared there.
 pub data Violates (p : Program) (at : ℕ) (rule : Rule) : Type 0 where
-  by_site : (before : List Item) (item : Item) (front : List Site) (s : Site) → Follows p before item →
+  by_site : (before : List Item) (item : Item) (front : List Site) (s : Site) → ItemFollows p before item →
       Stands (item_sites before item) front s → at_token s ≡ at → Breaks s rule → Violates p at rule
-  local_too_many : (before : List Item) (item : Item) (front : List Site) (s : Site) → Follows p before item →
+  local_too_many : (before : List Item) (item : Item) (front : List Site) (s : Site) → ItemFollows p before item →
       Stands (item_sites before item) front s → at_token s ≡ at →
       is_local s ≡ true → count_by is_local front ≡ MAX_LOCALS → rule ≡ TooMany → Violates p at rule
 

@@ -15,7 +15,7 @@ use Rattle.c_types.specs.declared.site.Site.{Site}
 use Rattle.c_types.specs.declared.site.Site.TheVariants as site
 use Rattle.c_types.specs.declared.verdict.Fault.{Fault}
 use Rattle.c_types.specs.declared.verdict.Verdict.{Verdict}
-use Rattle.c_types.specs.TypingRules.{is_call, is_assignment, is_function, is_array, is_scalar, is_constant, is_private, is_void, is_without_value, at_token, rule_order}
+use Rattle.c_types.specs.TypingRules.{is_call, is_assignment, is_function, is_array, is_scalar, is_constant, is_private_object, is_void, is_without_value, at_token, rule_order}
 
 -- a name of this kind is not used so
 abbrev pub misfits : How → Entity → Bool
@@ -43,7 +43,7 @@ miscounts (CallValue arguments) entity = differs_from entity arguments
 
 -- the class does not allow the use
 abbrev pub is_barred : How → Entity → Home → Bool
-is_barred how entity home = (is_assignment how && is_constant entity) || (is_private entity && not home.private)
+is_barred how entity home = (is_assignment how && is_constant entity) || (is_private_object entity && not home.private)
 
 -- the first rule that the use of a known name breaks
 abbrev pub known_rule : How → Binding → Home → Option Rule

@@ -34,8 +34,8 @@ abbrev pub start : Verdict
 start = record { first = None; locals = 0 }
 
 -- the first violation of items
-abbrev pub first_of : List Item → Option Fault
-first_of items = (items_noted 0 [] items start).first
+abbrev pub first_fault_of : List Item → Option Fault
+first_fault_of items = (items_noted 0 [] items start).first
 
 -- the number of the token after the sign `[` that may follow the name is one
 abbrev pub HasRoom : Item → Type 0

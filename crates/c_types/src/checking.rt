@@ -4,7 +4,7 @@ ghost use Rattle.std.specs.List.{list_any};
 ghost use Rattle.c_types.specs.declared.error.TypeError.TheVariants as error;
 ghost use Rattle.c_types.specs.Walks.{HasRoom};
 ghost use Rattle.c_types.specs.Checked.{IsReadProgram, IsTyped, IsRefusedByTypes, is_int, is_main, has_main, listed_object, listed_objects, listed_function, listed_functions, HasFewParameters, error_at};
-ghost use Rattle.c_types.specs.Walks.{first_of};
+ghost use Rattle.c_types.specs.Walks.{first_fault_of};
 
 use crate::checked::{Checked, Function, Functions, Object, Objects};
 use crate::error::TypeError;
@@ -154,7 +154,7 @@ fn error_of(fault: Fault) -> TypeError
 /// The first violation of items.
 fn first_fault(alloc: Global, items: &[Item]) -> Result<Option<Fault>, OutOfMemory>
     requires { All HasRoom items.now }
-    ensures { IfOk result (λ first. first ≡ first_of items.now) }
+    ensures { IfOk result (λ first. first ≡ first_fault_of items.now) }
 {
     let mut names = Names::new(alloc);
     let mut verdict = Verdict {

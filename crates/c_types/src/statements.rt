@@ -2,7 +2,7 @@
 ghost use Rattle.std.specs.Prelude.{◌≡◌, [], ◌∷◌, ◌++◌, length, OnOk, is_some};
 ghost use Rattle.c_types.specs.declared.site.Site.TheVariants as site;
 ghost use Rattle.c_scopes.specs.Scopes.{is_again};
-ghost use Rattle.c_types.specs.Sites.{use_of, assign, inside as inside_of, looped, place_after, stmt_sites, branch_sites, body_sites, part_sites, list_sites, expr_sites};
+ghost use Rattle.c_types.specs.Sites.{use_of, assign, inner_scope, looped, place_after, stmt_sites, branch_sites, body_sites, part_sites, list_sites, expr_sites};
 ghost use Rattle.c_types.specs.Verdicts.{note, noted};
 ghost use Rattle.c_types.specs.Walks.{place_of, declared_in};
 
@@ -263,7 +263,7 @@ fn inside(
 ) -> Result<(), OutOfMemory>
     ensures declared { OnOk result (names.new ≡ names.old) }
     ensures sites { OnOk result (verdict.new ≡ noted verdict.old
-        ((stmt_sites s.now).sites (inside_of (place_of names.old context)))) }
+        ((stmt_sites s.now).sites (inner_scope (place_of names.old context)))) }
 {
     let start = names.len();
     statement(names, Context { start, ..context }, s, verdict)?;
@@ -271,7 +271,7 @@ fn inside(
     Ok(())
 }
 
-/// The same of a statement that need not be there.
+/// Goes past the sites of a statement in a scope of its own, if it is there.
 #[cycle(statement)]
 fn branch_inside(
     names: &mut Names,
@@ -281,7 +281,7 @@ fn branch_inside(
 ) -> Result<(), OutOfMemory>
     ensures declared { OnOk result (names.new ≡ names.old) }
     ensures sites { OnOk result (verdict.new ≡ noted verdict.old
-        ((branch_sites s.now).sites (inside_of (place_of names.old context)))) }
+        ((branch_sites s.now).sites (inner_scope (place_of names.old context)))) }
 {
     match s {
         None => Ok(()),

@@ -1,6 +1,7 @@
 //! What a walk over the sites of a program finds.
 ghost use Rattle.std.specs.Prelude.{◌≡◌, ◌==◌, ◌||◌, not};
-ghost use Rattle.c_types.specs.TypingRules.{is_call, is_whole, is_indexed, is_assignment, is_function, is_array, is_scalar, is_constant, is_private, is_void, is_without_value, at_token, rule_order};
+ghost use Rattle.aegis_num.specs.declared.limits.TheConstants.{MAX_LOCALS};
+ghost use Rattle.c_types.specs.TypingRules.{is_call, is_whole, is_indexed, is_assignment, is_function, is_array, is_scalar, is_constant, is_private_object, is_void, is_without_value, at_token, rule_order};
 ghost use Rattle.c_types.specs.Verdicts as spec;
 
 use crate::site::{Home, How, Rule, Site};
@@ -71,7 +72,7 @@ fn is_constant(entity: Entity) -> bool
 }
 
 fn is_private(entity: Entity) -> bool
-    ensures { result ≡ is_private entity }
+    ensures { result ≡ is_private_object entity }
 {
     match entity {
         Entity::Object { class, .. } => matches!(class, Class::Private),
@@ -203,7 +204,7 @@ fn misreturns(result_kind: Kind3, value: bool) -> bool
 }
 
 fn is_full(locals: usize) -> bool
-    ensures { result ≡ (locals == 256) }
+    ensures { result ≡ (locals == MAX_LOCALS) }
 {
     locals == MAX_LOCALS as usize
 }

@@ -1,5 +1,5 @@
 use Rattle.std.proofs.Common.{◌≡◌, ◌∙◌, ap, ◌+◌, ◌++◌, drop, refl}
-use Rattle.c_types.specs.Sites.{inside, place_after, branch_sites}
+use Rattle.c_types.specs.Sites.{inner_scope, place_after, branch_sites}
 use Rattle.c_types.specs.Walks.{place_of, declared_in}
 use Rattle.c_types.proofs.Noted.{behind_step, body_step, if_parts, while_parts, for_parts, for_names}
 use Rattle.c_types.proofs.statements.+statement.Goals as goal
@@ -31,7 +31,7 @@ pub statement-returns-in_ok-forget-in-For-clause-sites :
     goal.statement-returns-in_ok-forget-in-For-clause-sites
 statement-returns-in_ok-forget-in-For-clause-sites t c =
     let place = place_of c.args.names.now c.args.context in
-    let around = place_after (branch_sites c.in-For.first).declared (inside place) in
+    let around = place_after (branch_sites c.in-For.first).declared (inner_scope place) in
     let first = rw c.len-in-For.ensures at c.in_ok-branch-in-For.ensures.sites in
     let test = rw c.in_ok-branch-in-For.ensures.declared at c.part.ensures in
     let step = rw c.in_ok-branch-in-For.ensures.declared at c.in_ok-branch_inside-in-For.ensures.sites in
