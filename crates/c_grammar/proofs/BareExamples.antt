@@ -1,5 +1,5 @@
 -- Programs that are equal without token numbers have equal parts: names, numbers, suffixes, operators, classes, and each list and each option.
-use Rattle.std.proofs.Common.{◌≡◌, ◌≢◌, ◌∙◌, ap, sym, ℕ, suc, Bool, true, false, List, [], ◌∷◌, length, Option, None, Some, refl, arith}
+use Rattle.std.proofs.Common.{◌≡◌, ◌≢◌, ◌∙◌, ap, sym, ℕ, suc, Bool, List, [], ◌∷◌, length, Option, None, Some, refl, arith}
 use Rattle.std.specs.Prelude.{map, option_map}
 use Rattle.std.proofs.lemmas.List.{length-map}
 use Rattle.c_token.specs.declared.signs.Sign.{Sign}
