@@ -13,7 +13,7 @@ use Rattle.adversary_script.specs.declared.change.Change.{Change}
 use Rattle.adversary_script.specs.declared.latest.Latest.{Latest}
 use Rattle.adversary_script.specs.declared.fault.Fault.{Fault}
 use Rattle.adversary_script.specs.declared.fault.Fault.TheVariants.{Range, Order, TooMany}
-use Rattle.adversary_script.specs.ScriptRules.{is_in_range, may_precede, bytes_written, all_bytes_written, are_in_order, KeepsRules}
+use Rattle.adversary_script.specs.ScriptRules.{is_in_range, may_precede, bytes_written, all_bytes_written, are_in_order, KeepsScriptRules}
 use Rattle.adversary_script.specs.ScriptGrammar.{is_in_order, has_room, ruled}
 use Rattle.adversary_script.specs.LatestMoments.{reaches, allows, latest_with, IsDraft}
 
@@ -61,7 +61,7 @@ passes true true false same = cc
 passes true true true same = (refl, refl, refl)
 
 -- the changes and one more keep the rules
-pub KeepsRules-push : (changes : List Change) (change : Change) → KeepsRules changes → ruled changes change ≡ Ok tt → KeepsRules (changes ++ change ∷ [])
+pub KeepsRules-push : (changes : List Change) (change : Change) → KeepsScriptRules changes → ruled changes change ≡ Ok tt → KeepsScriptRules (changes ++ change ∷ [])
 unfolding ruled
 KeepsRules-push changes change rules keeps =
     let tests = passes (is_in_range change.what) (is_in_order changes change) (has_room changes change) keeps in

@@ -11,8 +11,8 @@ use Rattle.adversary_script.specs.declared.error.ScriptError.{ScriptError}
 use Rattle.adversary_script.specs.declared.error.ScriptError.TheVariants as error
 use Rattle.adversary_script.specs.declared.fault.Fault.{Fault}
 use Rattle.adversary_script.specs.declared.fault.Fault.TheVariants.{Line, Number, Hex, Range, Order, TooMany, OutOfMemory}
-use Rattle.adversary_script.specs.ScriptGrammar.{fault_at, read_line, and_then, changes_from}
-use Rattle.adversary_script.specs.FormMeanings.{IsFault}
+use Rattle.adversary_script.specs.ScriptGrammar.{fault_at, read_line, after_line, changes_from}
+use Rattle.adversary_script.specs.FormMeanings.{IsScriptFault}
 
 -- a line feed
 abbrev is_feed : ℕ → Bool
@@ -39,7 +39,7 @@ lines_last text some none =
     ap lines_of_parts (slice_split_none is_feed text no_feed) ∙ cond-false (eqb (length text) 0) _ _ full
 
 -- a fault that is told
-fault_told : {X : Type 0} (fault : Fault) (n : ℕ) (outcome : Result X Fault) → IsFault fault outcome → fault_at n fault ≢ error.OutOfMemory → outcome ≡ Err fault
+fault_told : {X : Type 0} (fault : Fault) (n : ℕ) (outcome : Result X Fault) → IsScriptFault fault outcome → fault_at n fault ≢ error.OutOfMemory → outcome ≡ Err fault
 fault_told Line n outcome is told = is
 fault_told Number n outcome is told = is
 fault_told Hex n outcome is told = is
@@ -51,19 +51,19 @@ fault_told OutOfMemory n outcome is told = absurd (told refl)
 module _ (n : ℕ) (before : List Change) (rest line further : List ℕ) (total : Result (List Change) ScriptError)
     (so_far : changes_from n before (lines rest) ≡ total) (first : lines rest ≡ line ∷ lines further) where
   -- the first line and those after it
-  by_line : and_then n (λ changes. changes_from (n + 1) changes (lines further)) (read_line before line) ≡ total
+  by_line : after_line n (λ changes. changes_from (n + 1) changes (lines further)) (read_line before line) ≡ total
   unfolding changes_from
   by_line = sym (ap (changes_from n before) first) ∙ so_far
 
   -- after a line that is read
   pub told_further : (changes : List Change) → read_line before line ≡ Ok changes → changes_from (n + 1) changes (lines further) ≡ total
-  unfolding and_then
-  told_further changes read = sym (ap (and_then n (λ changes. changes_from (n + 1) changes (lines further))) read) ∙ by_line
+  unfolding after_line
+  told_further changes read = sym (ap (after_line n (λ changes. changes_from (n + 1) changes (lines further))) read) ∙ by_line
 
   -- at a line that is faulty
-  pub told_fault : (fault : Fault) → IsFault fault (read_line before line) → fault_at n fault ≢ error.OutOfMemory → total ≡ Err (fault_at n fault)
-  unfolding and_then
-  told_fault fault is told = sym by_line ∙ ap (and_then n (λ changes. changes_from (n + 1) changes (lines further))) (fault_told fault n (read_line before line) is told)
+  pub told_fault : (fault : Fault) → IsScriptFault fault (read_line before line) → fault_at n fault ≢ error.OutOfMemory → total ≡ Err (fault_at n fault)
+  unfolding after_line
+  told_fault fault is told = sym by_line ∙ ap (after_line n (λ changes. changes_from (n + 1) changes (lines further))) (fault_told fault n (read_line before line) is told)
 
 -- after the last line
 pub told_end : (n : ℕ) (before : List Change) (rest : List ℕ) (total : Result (List Change) ScriptError) → changes_from n before (lines rest) ≡ total → length rest ≡ 0 → total ≡ Ok before

@@ -13,10 +13,10 @@ use Rattle.adversary_script.specs.declared.change.Change.{Change}
 use Rattle.adversary_script.specs.declared.error.ScriptError.{ScriptError}
 use Rattle.adversary_script.specs.declared.fault.Fault.{Fault}
 use Rattle.adversary_script.specs.declared.fault.Fault.TheVariants.{Line, Range, Order, TooMany}
-use Rattle.adversary_script.specs.ScriptRules.{is_in_range, may_precede, bytes_written, all_bytes_written, are_in_order, KeepsRules}
+use Rattle.adversary_script.specs.ScriptRules.{is_in_range, may_precede, bytes_written, all_bytes_written, are_in_order, KeepsScriptRules}
 use Rattle.adversary_script.specs.LineFields.{is_line_byte, fields_of}
-use Rattle.adversary_script.specs.ScriptGrammar.{is_in_order, has_room, ruled, fields_say, line_says, added, read_line, fault_at, and_then, changes_from, script_of, ◌>>=◌}
-use Rattle.adversary_script.specs.ScriptTexts.{HasLine, AllHaveLines, HasText}
+use Rattle.adversary_script.specs.ScriptGrammar.{is_in_order, has_room, ruled, fields_say, line_says, added, read_line, fault_at, after_line, changes_from, script_of, ◌>>=◌}
+use Rattle.adversary_script.specs.ScriptTexts.{HasLine, AllHaveLines, HasScriptText}
 use Rattle.adversary_script.proofs.Drafts.{KeepsRules-push}
 use Rattle.adversary_script.proofs.Lines.{lines_of_parts-more}
 
@@ -27,15 +27,15 @@ AllHaveLines-push [] change all has = (has, tt)
 AllHaveLines-push (first ∷ before) change all has = (all.0, AllHaveLines-push before change all.1 has)
 
 abbrev Fine : List Change → Type 0
-Fine changes = KeepsRules changes × AllHaveLines changes
+Fine changes = KeepsScriptRules changes × AllHaveLines changes
 
 bind-ok : {A B : Type 0} (o : Result A Fault) (f : A → Result B Fault) (y : B) → (o >>= f) ≡ Ok y → (x : A) × (o ≡ Ok x) × (f x ≡ Ok y)
 bind-ok (Ok x) f y same = (x, refl, same)
 bind-ok (Err fault) f y same = cc
 
 and_then-ok : (n : ℕ) (further : List Change → Result (List Change) ScriptError) (o : Result (List Change) Fault) (changes : List Change)
-    → and_then n further o ≡ Ok changes → (mid : List Change) × (o ≡ Ok mid) × (further mid ≡ Ok changes)
-unfolding and_then
+    → after_line n further o ≡ Ok changes → (mid : List Change) × (o ≡ Ok mid) × (further mid ≡ Ok changes)
+unfolding after_line
 and_then-ok n further (Ok mid) changes same = (mid, refl, same)
 and_then-ok n further (Err fault) changes same = cc
 
@@ -65,7 +65,7 @@ from-fine n before (line ∷ further) changes read fine =
 no_change-fine : Fine []
 no_change-fine = (record { range = refl; order = refl; count = omega arith; bytes = omega arith }, tt)
 
-pub text-fine : (changes : List Change) → HasText changes → Fine changes
+pub text-fine : (changes : List Change) → HasScriptText changes → Fine changes
 unfolding script_of
 text-fine changes has = from-fine 1 [] (lines has.text) changes has.reads no_change-fine
 
@@ -136,7 +136,7 @@ range-cut before change further range =
     let rest = and_parts (list_all (λ change. is_in_range change.what) before) (list_all (λ change. is_in_range change.what) (change ∷ further)) all in
     (and_parts (is_in_range change.what) (list_all (λ change. is_in_range change.what) further) rest.1).0
 
-room-cut : (before : List Change) (change : Change) (further : List Change) → KeepsRules (before ++ change ∷ further) → has_room before change ≡ true
+room-cut : (before : List Change) (change : Change) (further : List Change) → KeepsScriptRules (before ++ change ∷ further) → has_room before change ≡ true
 room-cut before change further keeps =
     let long = length-append before (change ∷ further) in
     let total = sum_by-append (λ (c : Change). bytes_written c.what) before (change ∷ further) in
@@ -145,7 +145,7 @@ room-cut before change further keeps =
     let bytes : all_bytes_written before + bytes_written change.what ≤ MAX_CHANGE_BYTES = omega (arith, keeps.bytes, total, first) in
     and_from _ _ (lt-ltb (length before) MAX_CHANGES count) (le-leb (all_bytes_written before + bytes_written change.what) MAX_CHANGE_BYTES bytes)
 
-ruled-cut : (before : List Change) (change : Change) (further : List Change) → KeepsRules (before ++ change ∷ further) → ruled before change ≡ Ok tt
+ruled-cut : (before : List Change) (change : Change) (further : List Change) → KeepsScriptRules (before ++ change ∷ further) → ruled before change ≡ Ok tt
 unfolding ruled
 ruled-cut before change further keeps =
     ap (λ (b : Bool). if not b then Err Range else (if not (is_in_order before change) then Err Order else (if not (has_room before change) then Err TooMany else Ok tt)))
@@ -153,27 +153,27 @@ ruled-cut before change further keeps =
     ∙ ap (λ (b : Bool). if not b then Err Order else (if not (has_room before change) then Err TooMany else Ok tt)) (order-cut before change further keeps.order)
     ∙ ap (λ (b : Bool). if not b then Err TooMany else Ok tt) (room-cut before change further keeps)
 
-read-cut : (before : List Change) (change : Change) (further : List Change) (line : List ℕ) → line_says line ≡ Ok (Some change) → KeepsRules (before ++ change ∷ further)
+read-cut : (before : List Change) (change : Change) (further : List Change) (line : List ℕ) → line_says line ≡ Ok (Some change) → KeepsScriptRules (before ++ change ∷ further)
     → read_line before line ≡ Ok (before ++ change ∷ [])
 unfolding read_line added
 read-cut before change further line says keeps =
     ap (λ (o : Result (Option Change) Fault). o >>= λ change. added before change) says
     ∙ ap (λ (o : Result (Unit {0}) Fault). o >>= λ _. Ok (before ++ change ∷ [])) (ruled-cut before change further keeps)
 
-from-text_of : (n : ℕ) (before changes : List Change) (all : AllHaveLines changes) → KeepsRules (before ++ changes) → changes_from n before (lines (text_of changes all)) ≡ Ok (before ++ changes)
-unfolding changes_from and_then
+from-text_of : (n : ℕ) (before changes : List Change) (all : AllHaveLines changes) → KeepsScriptRules (before ++ changes) → changes_from n before (lines (text_of changes all)) ≡ Ok (before ++ changes)
+unfolding changes_from after_line
 from-text_of n before [] all keeps = ap (λ (xs : List Change). Ok xs) (sym (append-nil before))
 from-text_of n before (change ∷ changes) all keeps =
     let regroup : (before ++ change ∷ []) ++ changes ≡ before ++ change ∷ changes = append_assoc before (change ∷ []) changes in
     ap (λ (texts : List (List ℕ)). changes_from n before texts) (lines-text_of change changes all)
-    ∙ ap (λ (o : Result (List Change) Fault). and_then n (λ mid. changes_from (n + 1) mid (lines (text_of changes all.1))) o)
+    ∙ ap (λ (o : Result (List Change) Fault). after_line n (λ mid. changes_from (n + 1) mid (lines (text_of changes all.1))) o)
     (read-cut before change changes all.0.line all.0.says keeps)
-    ∙ from-text_of (n + 1) (before ++ change ∷ []) changes all.1 (subst (λ (xs : List Change). KeepsRules xs) (sym regroup) keeps)
+    ∙ from-text_of (n + 1) (before ++ change ∷ []) changes all.1 (subst (λ (xs : List Change). KeepsScriptRules xs) (sym regroup) keeps)
     ∙ ap (λ (xs : List Change). Ok xs) regroup
 
-pub fine-text : (changes : List Change) → Fine changes → HasText changes
+pub fine-text : (changes : List Change) → Fine changes → HasScriptText changes
 unfolding script_of
 fine-text changes fine = record { text = text_of changes fine.1; reads = from-text_of 1 [] changes fine.1 fine.0 }
 
-pub texts-keep_rules : (changes : List Change) → HasText changes ↔ (KeepsRules changes × AllHaveLines changes)
+pub texts-keep_rules : (changes : List Change) → HasScriptText changes ↔ (KeepsScriptRules changes × AllHaveLines changes)
 texts-keep_rules changes = (text-fine changes, fine-text changes)

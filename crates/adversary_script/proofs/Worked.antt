@@ -11,12 +11,12 @@ use Rattle.adversary_script.specs.declared.change.What.{What}
 use Rattle.adversary_script.specs.declared.change.Change.{Change}
 use Rattle.adversary_script.specs.declared.error.ScriptError.TheVariants.{Line, Number, Hex, Range, Order}
 use Rattle.adversary_script.specs.LineFields.{numeral_value}
-use Rattle.adversary_script.specs.LineForms.{kind_of, block_form, copy_of, four_fields, change_form, moment_with, numbered, line_form}
-use Rattle.adversary_script.specs.ScriptGrammar.{block, moment, deed, change, ruled, fields_say, line_says, added, read_line, and_then, changes_from, script_of}
+use Rattle.adversary_script.specs.LineForms.{kind_of, block_form, copy_of, four_fields, change_form, moment_with, moment_numbered, line_form}
+use Rattle.adversary_script.specs.ScriptGrammar.{block, moment, deed, change, ruled, fields_say, line_says, added, read_line, after_line, changes_from, script_of}
 
 -- what has to be unfolded to compute a script
 unfoldable script_computes : ⊤
-unfolding decode_pairs numeral_value kind_of block_form copy_of four_fields change_form moment_with numbered line_form block moment deed change ruled fields_say line_says added read_line and_then changes_from script_of
+unfolding decode_pairs numeral_value kind_of block_form copy_of four_fields change_form moment_with moment_numbered line_form block moment deed change ruled fields_say line_says added read_line after_line changes_from script_of
 script_computes = tt
 
 abbrev makes : When → What → Change

@@ -35,20 +35,20 @@ moment_of (moment.At n) = at_form n.now
 moment_of (moment.Suspend k) = suspend_form k.now
 
 -- a line with its fields
-abbrev pub line_of : Written → LineForm
-line_of line = record { moment = moment_of line.moment; change = change_of line.change }
+abbrev pub line_meant : Written → LineForm
+line_meant line = record { moment = moment_of line.moment; change = change_of line.change }
 
 -- the outcome is this fault; of want of memory nothing is said
-abbrev pub IsFault : {X : Type 0} → Fault → Result X Fault → Type 0
-IsFault Line outcome = outcome ≡ Err Line
-IsFault Number outcome = outcome ≡ Err Number
-IsFault Hex outcome = outcome ≡ Err Hex
-IsFault Range outcome = outcome ≡ Err Range
-IsFault Order outcome = outcome ≡ Err Order
-IsFault TooMany outcome = outcome ≡ Err TooMany
-IsFault OutOfMemory outcome = Unit {0}
+abbrev pub IsScriptFault : {X : Type 0} → Fault → Result X Fault → Type 0
+IsScriptFault Line outcome = outcome ≡ Err Line
+IsScriptFault Number outcome = outcome ≡ Err Number
+IsScriptFault Hex outcome = outcome ≡ Err Hex
+IsScriptFault Range outcome = outcome ≡ Err Range
+IsScriptFault Order outcome = outcome ≡ Err Order
+IsScriptFault TooMany outcome = outcome ≡ Err TooMany
+IsScriptFault OutOfMemory outcome = Unit {0}
 
 -- the result is this outcome, unless memory ran out
 abbrev pub Gives : {X : Type 0} → Result X Fault → Result X Fault → Type 0
 Gives (Ok x) outcome = outcome ≡ Ok x
-Gives (Err fault) outcome = IsFault fault outcome
+Gives (Err fault) outcome = IsScriptFault fault outcome

@@ -5,7 +5,7 @@ use Rattle.adversary_script.specs.declared.change.When.{When}
 use Rattle.adversary_script.specs.declared.change.When.TheVariants.{Start, At, Suspend}
 use Rattle.adversary_script.specs.declared.change.Change.{Change}
 use Rattle.adversary_script.specs.declared.latest.Latest.{Latest}
-use Rattle.adversary_script.specs.ScriptRules.{may_precede, all_bytes_written, KeepsRules}
+use Rattle.adversary_script.specs.ScriptRules.{may_precede, all_bytes_written, KeepsScriptRules}
 
 -- the last number, if there is one, is not above this one
 abbrev pub reaches : Option ℕ → ℕ → Bool
@@ -26,6 +26,6 @@ latest_with latest (Suspend k) = record latest { suspend = Some k }
 
 -- the changes keep the rules, and these are their latest moments and the number of their bytes
 pub record IsDraft (changes : List Change) (latest : Latest) (bytes : ℕ) : Type 0 where
-  pub rules : KeepsRules changes
+  pub rules : KeepsScriptRules changes
   pub order : (when : When) → list_all (λ earlier. may_precede earlier.when when) changes ≡ allows latest when
   pub count : all_bytes_written changes ≡ bytes

@@ -27,14 +27,14 @@ abbrev pub below_limit : ℕ → Option ℕ
 below_limit n = if nat_le n 4294967295 then Some n else None
 
 -- the number that digits of a base write, leading zeros among them
-abbrev pub number_in : ℕ → (ℕ → Bool) → List ℕ → Option ℕ
-number_in base is_digit digits = if is_numeral is_digit digits then below_limit (digits_value base digits) else None
+abbrev pub number_in_base : ℕ → (ℕ → Bool) → List ℕ → Option ℕ
+number_in_base base is_digit digits = if is_numeral is_digit digits then below_limit (digits_value base digits) else None
 
 -- the number that a field writes: decimal digits, or `0x` and hexadecimal ones
 unfoldable pub numeral_value : List ℕ → Option ℕ
 numeral_value field =
-    if starts_with nat_eq field (codes "0x") then number_in 16 is_ascii_hexdigit (drop 2 field) else number_in 10 is_ascii_digit field
+    if starts_with nat_eq field (codes "0x") then number_in_base 16 is_ascii_hexdigit (drop 2 field) else number_in_base 10 is_ascii_digit field
 
 -- the bytes that a field writes as pairs of hexadecimal digits: no field is empty, so there are one or more
-abbrev pub bytes_of : List ℕ → Option (List ℕ)
-bytes_of field = result_ok (decode_of field)
+abbrev pub hex_bytes : List ℕ → Option (List ℕ)
+hex_bytes field = result_ok (decode_of field)

@@ -68,15 +68,15 @@ unfoldable pub moment_with : MomentForm → Option ChangeForm → Option LineFor
 moment_with moment change = option_map (λ change. record { moment = moment; change = change }) change
 
 -- a moment with a number, and a change after it
-unfoldable pub numbered : (List ℕ → MomentForm) → List (List ℕ) → Option LineForm
-numbered moment [] = None
-numbered moment (number ∷ fields) = moment_with (moment number) (change_form fields)
+unfoldable pub moment_numbered : (List ℕ → MomentForm) → List (List ℕ) → Option LineForm
+moment_numbered moment [] = None
+moment_numbered moment (number ∷ fields) = moment_with (moment number) (change_form fields)
 
 -- line = ( "start" | "at" N | "suspend" K ) change
 unfoldable pub line_form : List (List ℕ) → Option LineForm
 line_form [] = None
 line_form (word ∷ fields) =
     if bytes_eq word (codes "start") then moment_with start_form (change_form fields)
-    else (if bytes_eq word (codes "at") then numbered (λ n. at_form n) fields
-    else (if bytes_eq word (codes "suspend") then numbered (λ k. suspend_form k) fields
+    else (if bytes_eq word (codes "at") then moment_numbered (λ n. at_form n) fields
+    else (if bytes_eq word (codes "suspend") then moment_numbered (λ k. suspend_form k) fields
     else None))

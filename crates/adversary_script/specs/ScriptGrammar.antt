@@ -20,7 +20,7 @@ use Rattle.adversary_script.specs.declared.fault.Fault.TheVariants.{Line, Number
 use Rattle.adversary_script.specs.declared.form.Kind.{Kind}
 use Rattle.adversary_script.specs.declared.form.Kind.TheVariants.{Data, Node, Text, Log}
 use Rattle.adversary_script.specs.ScriptRules.{is_in_range, may_precede, bytes_written, all_bytes_written}
-use Rattle.adversary_script.specs.LineFields.{is_line_byte, fields_of, numeral_value, bytes_of}
+use Rattle.adversary_script.specs.LineFields.{is_line_byte, fields_of, numeral_value, hex_bytes}
 use Rattle.adversary_script.specs.LineForms.{BlockForm, ChangeForm, open_form, code_form, bytes_form, save_form, back_form, copy_form, MomentForm, start_form, at_form, suspend_form, LineForm, line_form}
 
 infixl 10 ◌>>=◌
@@ -34,7 +34,7 @@ number field = ok_or (numeral_value field) Number
 
 -- a HEX field
 abbrev pub hex : List ℕ → Result (List ℕ) Fault
-hex field = ok_or (bytes_of field) Hex
+hex field = ok_or (hex_bytes field) Hex
 
 -- the block of a kind with a number
 abbrev pub target_of : Kind → ℕ → Target
@@ -139,14 +139,14 @@ fault_at n TooMany = error.TooMany n
 fault_at n OutOfMemory = error.OutOfMemory
 
 -- further lines after the line with this number, whose fault comes first
-unfoldable pub and_then : ℕ → (List Change → Result (List Change) ScriptError) → Result (List Change) Fault → Result (List Change) ScriptError
-and_then n further (Ok changes) = further changes
-and_then n further (Err fault) = Err (fault_at n fault)
+unfoldable pub after_line : ℕ → (List Change → Result (List Change) ScriptError) → Result (List Change) Fault → Result (List Change) ScriptError
+after_line n further (Ok changes) = further changes
+after_line n further (Err fault) = Err (fault_at n fault)
 
 -- the changes of earlier lines and of these, the first of which has the number n
 unfoldable pub changes_from : ℕ → List Change → List (List ℕ) → Result (List Change) ScriptError
 changes_from n before [] = Ok before
-changes_from n before (line ∷ further) = and_then n (λ changes. changes_from (n + 1) changes further) (read_line before line)
+changes_from n before (line ∷ further) = after_line n (λ changes. changes_from (n + 1) changes further) (read_line before line)
 
 -- the changes of a text, or its first fault: lines are counted from 1, and of a line neither its line feed nor one carriage
 -- return directly before that is a part

@@ -45,7 +45,7 @@ are_in_order [] = true
 are_in_order (change ∷ changes) = list_all (λ later. may_precede change.when later.when) changes && are_in_order changes
 
 -- the changes of a script
-pub record KeepsRules (changes : List Change) : Type 0 where
+pub record KeepsScriptRules (changes : List Change) : Type 0 where
   pub range : list_all (λ change. is_in_range change.what) changes ≡ true
   pub order : are_in_order changes ≡ true
   pub count : length changes ≤ MAX_CHANGES

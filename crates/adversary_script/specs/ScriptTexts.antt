@@ -1,7 +1,7 @@
 -- Promise: which changes have a text.
 use Rattle.std.specs.Prelude.{◌≡◌, ℕ, ⊤, List, [], ◌∷◌, Ok, Some, ◌↔◌}
 use Rattle.adversary_script.specs.declared.change.Change.{Change}
-use Rattle.adversary_script.specs.ScriptRules.{KeepsRules}
+use Rattle.adversary_script.specs.ScriptRules.{KeepsScriptRules}
 use Rattle.adversary_script.specs.ScriptGrammar.{line_says, script_of}
 
 -- some line says this change
@@ -15,10 +15,10 @@ AllHaveLines [] = ⊤
 AllHaveLines (change ∷ changes) = HasLine change × AllHaveLines changes
 
 -- some text reads to these changes
-pub record HasText (changes : List Change) : Type 0 where
+pub record HasScriptText (changes : List Change) : Type 0 where
   pub text : List ℕ
   pub reads : script_of text ≡ Ok changes
 
 -- a text reads to changes exactly where these keep the rules and each has a line
 pub record TextsKeepRules : Type 0 where
-  pub same : (changes : List Change) → HasText changes ↔ (KeepsRules changes × AllHaveLines changes)
+  pub same : (changes : List Change) → HasScriptText changes ↔ (KeepsScriptRules changes × AllHaveLines changes)

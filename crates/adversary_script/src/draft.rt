@@ -1,7 +1,7 @@
 //! The changes of the lines that were read.
 ghost use Rattle.std.specs.Prelude.{◌≡◌, [], ◌∷◌, ◌++◌, OnOk, OnErr, IfErr};
 ghost use Rattle.adversary_script.specs.ScriptGrammar.{ruled};
-ghost use Rattle.adversary_script.specs.FormMeanings.{IsFault};
+ghost use Rattle.adversary_script.specs.FormMeanings.{IsScriptFault};
 
 use crate::change::Change;
 use crate::fault::Fault;
@@ -68,7 +68,7 @@ impl Draft {
     pub fn add(&mut self, change: Change) -> Result<(), Fault>
         ensures ruled { OnOk result (ruled self.old change ≡ Ok tt) }
         ensures added { OnOk result (self.new ≡ self.old ++ change ∷ []) }
-        ensures fault { IfErr result (λ fault. IsFault fault (ruled self.old change)) }
+        ensures fault { IfErr result (λ fault. IsScriptFault fault (ruled self.old change)) }
     {
         self.rule(&change)?;
         let latest = self.latest.with(change.when);

@@ -3,7 +3,7 @@ ghost use Rattle.std.specs.Prelude.{◌≡◌, ◌≤◌, IfOk};
 ghost use Rattle.std.specs.Str.Parse.{IsNumeral, digits_value};
 ghost use Rattle.std.specs.List.{list_all};
 ghost use Rattle.std.specs.Char.{is_ascii_digit, is_ascii_hexdigit};
-ghost use Rattle.adversary_script.specs.LineFields.{is_line_byte, is_separator, fields_of, is_numeral, below_limit, number_in, numeral_value};
+ghost use Rattle.adversary_script.specs.LineFields.{is_line_byte, is_separator, fields_of, is_numeral, below_limit, number_in_base, numeral_value};
 ghost use Rattle.adversary_script.specs.ScriptGrammar.{number, hex as hex_bytes};
 ghost use Rattle.adversary_script.specs.FormMeanings.{texts, Gives};
 
@@ -70,7 +70,7 @@ fn is_hexadecimal(field: &[u8]) -> bool
 
 /// The number that decimal digits write.
 fn decimal(digits: &[u8]) -> Option<u32>
-    ensures { result ≡ number_in 10 is_ascii_digit digits.now }
+    ensures { result ≡ number_in_base 10 is_ascii_digit digits.now }
 {
     if is_decimal(digits) {
         value_of(10, digits)
@@ -81,7 +81,7 @@ fn decimal(digits: &[u8]) -> Option<u32>
 
 /// The number that hexadecimal digits write.
 fn hexadecimal(digits: &[u8]) -> Option<u32>
-    ensures { result ≡ number_in 16 is_ascii_hexdigit digits.now }
+    ensures { result ≡ number_in_base 16 is_ascii_hexdigit digits.now }
 {
     if is_hexadecimal(digits) {
         value_of(16, digits)

@@ -2,7 +2,7 @@
 ghost use Rattle.std.specs.Prelude.{◌≡◌, option_map};
 ghost use Rattle.std.specs.Str.{bytes_eq};
 ghost use Rattle.adversary_script.specs.LineForms.{kind_of, block_form, four_fields, change_form, line_form};
-ghost use Rattle.adversary_script.specs.FormMeanings.{texts, block_of, change_of, line_of};
+ghost use Rattle.adversary_script.specs.FormMeanings.{texts, block_of, change_of, line_meant};
 
 /// A kind of block.
 #[derive(Clone, Copy)]
@@ -143,9 +143,9 @@ fn change_form<'a>(fields: &[&'a [u8]]) -> Option<Form<'a>>
 }
 
 /// The line that these fields write.
-#[tactic(auto, unfolding(crate::specs::LineForms::line_form, crate::specs::LineForms::numbered, crate::specs::LineForms::moment_with))]
+#[tactic(auto, unfolding(crate::specs::LineForms::line_form, crate::specs::LineForms::moment_numbered, crate::specs::LineForms::moment_with))]
 pub fn line_form<'a>(fields: &[&'a [u8]]) -> Option<Line<'a>>
-    ensures { option_map line_of result ≡ line_form (texts fields.now) }
+    ensures { option_map line_meant result ≡ line_form (texts fields.now) }
 {
     let [word, rest @ ..] = fields else {
         return None;

@@ -3,7 +3,7 @@ ghost use Rattle.std.specs.Prelude.{◌≡◌, ◌≢◌, ◌==◌, ◌<◌, ◌
 ghost use Rattle.std.specs.List.{position_or_len};
 ghost use Rattle.std.specs.Str.Lines.{lines, strip_carriage_return};
 ghost use Rattle.adversary_script.specs.ScriptGrammar.{read_line, script_of};
-ghost use Rattle.adversary_script.specs.FormMeanings.{IsFault};
+ghost use Rattle.adversary_script.specs.FormMeanings.{IsScriptFault};
 
 use crate::draft::Draft;
 use crate::error::ScriptError;
@@ -48,7 +48,7 @@ fn first_line(text: &[u8]) -> (&[u8], &[u8])
 #[tactic(auto, unfolding(crate::specs::ScriptGrammar::read_line, crate::specs::ScriptGrammar::added))]
 fn read_line(alloc: Global, draft: &mut Draft, line: &[u8]) -> Result<(), Fault>
     ensures read { OnOk result (read_line draft.old line.now ≡ Ok draft.new) }
-    ensures fault { IfErr result (λ fault. IsFault fault (read_line draft.old line.now)) }
+    ensures fault { IfErr result (λ fault. IsScriptFault fault (read_line draft.old line.now)) }
 {
     match line_says(alloc, line)? {
         None => Ok(()),

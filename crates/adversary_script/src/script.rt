@@ -1,7 +1,7 @@
 //! Scripts.
 ghost use Rattle.std.specs.Prelude.{◌≡◌, List};
 ghost use Rattle.adversary_script.specs.declared.change.Change.{Change};
-ghost use Rattle.adversary_script.specs.ScriptRules.{KeepsRules};
+ghost use Rattle.adversary_script.specs.ScriptRules.{KeepsScriptRules};
 
 use crate::change::Change;
 use std::marker::Model;
@@ -54,14 +54,14 @@ impl Model for Script {
 
     ghost view = { λ script. script.changes };
 
-    ghost invariant = { λ script. KeepsRules script.changes };
+    ghost invariant = { λ script. KeepsScriptRules script.changes };
 }
 
 impl Script {
     /// The changes, in the order of their lines.
     pub fn as_slice(&self) -> &[Change]
         ensures changes { result.now ≡ self.now }
-        ensures rules { KeepsRules self.now }
+        ensures rules { KeepsScriptRules self.now }
     {
         self.changes.as_slice()
     }

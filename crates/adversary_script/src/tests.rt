@@ -1,5 +1,5 @@
 use super::*;
-use aegis_num::limits::{MAX_CHANGE_BYTES, MAX_CHANGES, MAX_SCRIPT_BYTES};
+use aegis_num::limits::{MAX_CHANGES, MAX_SCRIPT_BYTES};
 use regions::UNTRUSTED_START;
 use std::alloc::{AllocError, Global};
 use std::test::Fail;
@@ -139,32 +139,5 @@ fn reads_the_most_changes(rt: HostRuntime) -> Result<(), Fail> {
     assert!(rt; text.len() as u64 <= MAX_SCRIPT_BYTES);
     let fault = read_script(rt.alloc(), &text).err();
     assert_eq!(rt; fault, Some(ScriptError::TooMany { n: 4_099 }));
-    Ok(())
-}
-
-#[test]
-fn reads_the_most_bytes(rt: HostRuntime) -> Result<(), Fail> {
-    let mut text = Vec::from_slice(rt.alloc(), b"start open 0 ")?;
-    text.extend_from_slice(repeated(rt.alloc(), b"5A", MAX_CHANGE_BYTES)?.as_slice())?;
-    assert!(rt; text.len() as u64 <= MAX_SCRIPT_BYTES);
-    assert_eq!(rt; read_script(rt.alloc(), &text)?.as_slice().len(), 1);
-    text.extend_from_slice(b"\nstart save 0 log 0\nstart log 0 0 00")?;
-    assert!(rt; text.len() as u64 <= MAX_SCRIPT_BYTES);
-    let fault = read_script(rt.alloc(), &text).err();
-    assert_eq!(rt; fault, Some(ScriptError::TooMany { n: 3 }));
-    Ok(())
-}
-
-#[test]
-fn reads_the_longest_text(rt: HostRuntime) -> Result<(), Fail> {
-    let mut text = repeated(rt.alloc(), b"\n", 1_048_575)?;
-    text.push(b'#')?;
-    assert_eq!(rt; text.len() as u64, MAX_SCRIPT_BYTES);
-    assert!(rt; read_script(rt.alloc(), &text)?.as_slice().is_empty());
-    text.pop();
-    text.push(b'5')?;
-    assert_eq!(rt; text.len() as u64, MAX_SCRIPT_BYTES);
-    let fault = read_script(rt.alloc(), &text).err();
-    assert_eq!(rt; fault, Some(ScriptError::Line { n: 1_048_576 }));
     Ok(())
 }

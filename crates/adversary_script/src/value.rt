@@ -1,7 +1,7 @@
 //! The change that a line makes.
 ghost use Rattle.std.specs.Prelude.{◌≡◌};
 ghost use Rattle.adversary_script.specs.ScriptGrammar.{target_of, block as block_target, moment as when_of, deed, change, fields_say, line_says};
-ghost use Rattle.adversary_script.specs.FormMeanings.{block_of, moment_of, change_of, line_of, texts, Gives};
+ghost use Rattle.adversary_script.specs.FormMeanings.{block_of, moment_of, change_of, line_meant, texts, Gives};
 
 use crate::change::{Change, Target, What, When};
 use crate::fault::Fault;
@@ -92,7 +92,7 @@ fn what(alloc: Global, form: Form<'_>) -> Result<What, Fault>
 /// The change that a line makes.
 #[tactic(auto, unfolding(crate::specs::ScriptGrammar::change))]
 fn change(alloc: Global, line: Line<'_>) -> Result<Change, Fault>
-    ensures { Gives result (change (line_of line.entry)) }
+    ensures { Gives result (change (line_meant line.entry)) }
 {
     let when = when(line.moment)?;
     let what = what(alloc, line.change)?;

@@ -6,10 +6,10 @@ use Rattle.aegis_num.specs.declared.storage.Place.{Place}
 use Rattle.aegis_num.specs.declared.storage.Place.TheVariants.{Tree, Log}
 use Rattle.regions.specs.declared.layout.Layout.{Layout}
 use Rattle.regions.specs.declared.addresses.TheConstants.{OPEN_END}
-use Rattle.off_chip.specs.OffChipBytes.{HasPlace, IsWordAddress, bytes_at, put, start_of_place, loaded, loaded_over, size_of, stored, static_block, static_place, with_statics}
+use Rattle.off_chip.specs.OffChipBytes.{HasPlace, IsWordAddress, bytes_at, bytes_put, start_of_place, bytes_loaded, bytes_loaded_over, size_of, stored, static_block, static_place, with_statics}
 
 -- as many bytes as before
-pub length-put : (at : ℕ) (bytes memory : List ℕ) → at + length bytes ≤ length memory → length (put at bytes memory) ≡ length memory
+pub length-put : (at : ℕ) (bytes memory : List ℕ) → at + length bytes ≤ length memory → length (bytes_put at bytes memory) ≡ length memory
 length-put at bytes memory within =
     let front : length (take at memory) ≡ at = length-take-le at memory (omega arith) in
     omega (
@@ -20,20 +20,20 @@ length-put at bytes memory within =
     )
 
 -- bytes put right after bytes that were put
-pub put-put : (at : ℕ) (xs ys memory : List ℕ) (next : ℕ) → next ≡ at + length xs → next ≤ length memory → put next ys (put at xs memory) ≡ put at (xs ++ ys) memory
+pub put-put : (at : ℕ) (xs ys memory : List ℕ) (next : ℕ) → next ≡ at + length xs → next ≤ length memory → bytes_put next ys (bytes_put at xs memory) ≡ bytes_put at (xs ++ ys) memory
 put-put at xs ys memory next is within =
     let front : length (take at memory) ≡ at = length-take-le at memory (omega arith) in
     let long : length (take at memory ++ xs) ≡ next = omega (arith, length-append (take at memory) xs) in
     let rest : List ℕ = drop (at + length xs) memory in
-    let regroup : put at xs memory ≡ (take at memory ++ xs) ++ rest = sym (append_assoc (take at memory) xs rest) in
-    let taken : take next (put at xs memory) ≡ take at memory ++ xs =
+    let regroup : bytes_put at xs memory ≡ (take at memory ++ xs) ++ rest = sym (append_assoc (take at memory) xs rest) in
+    let taken : take next (bytes_put at xs memory) ≡ take at memory ++ xs =
     ap (take next) regroup ∙ take_at (take at memory ++ xs) rest next long in
-    let dropped : drop next (put at xs memory) ≡ rest =
+    let dropped : drop next (bytes_put at xs memory) ≡ rest =
     ap (drop next) regroup ∙ drop_at (take at memory ++ xs) rest next long in
-    let further : drop (next + length ys) (put at xs memory) ≡ drop (at + length (xs ++ ys)) memory =
-    sym (drop-drop (length ys) next (put at xs memory)) ∙ ap (drop (length ys)) dropped ∙ drop-drop (length ys) (at + length xs) memory
+    let further : drop (next + length ys) (bytes_put at xs memory) ≡ drop (at + length (xs ++ ys)) memory =
+    sym (drop-drop (length ys) next (bytes_put at xs memory)) ∙ ap (drop (length ys)) dropped ∙ drop-drop (length ys) (at + length xs) memory
     ∙ ap (λ n. drop n memory) (omega (arith, length-append xs ys)) in
-    let all : put next ys (put at xs memory) ≡ (take at memory ++ xs) ++ (ys ++ drop (at + length (xs ++ ys)) memory) = cc in
+    let all : bytes_put next ys (bytes_put at xs memory) ≡ (take at memory ++ xs) ++ (ys ++ drop (at + length (xs ++ ys)) memory) = cc in
     all ∙ append_assoc (take at memory) xs (ys ++ drop (at + length (xs ++ ys)) memory)
     ∙ ap (λ l. take at memory ++ l) (sym (append_assoc xs ys (drop (at + length (xs ++ ys)) memory)))
 
@@ -57,11 +57,11 @@ unfolding with_statics
 with_statics-zero layout statics memory = refl
 
 -- one static block more
-pub with_statics-more : (layout : Layout) (statics : List ℕ) (n : ℕ) (memory : List ℕ) → with_statics layout statics (n + 1) memory ≡ put (start_of_place layout (static_place layout n)) (stored (static_block statics n)) (with_statics layout statics n memory)
+pub with_statics-more : (layout : Layout) (statics : List ℕ) (n : ℕ) (memory : List ℕ) → with_statics layout statics (n + 1) memory ≡ bytes_put (start_of_place layout (static_place layout n)) (stored (static_block statics n)) (with_statics layout statics n memory)
 unfolding with_statics
 with_statics-more layout statics n memory = ap (λ k. with_statics layout statics k memory) (add-one n)
 
 -- memory begins with zeros and what is put over them
-pub loaded-zeros : (layout : Layout) (statics : List ℕ) → loaded layout statics ≡ loaded_over layout statics (replicate (size_of layout) 0)
-unfolding loaded
+pub loaded-zeros : (layout : Layout) (statics : List ℕ) → bytes_loaded layout statics ≡ bytes_loaded_over layout statics (replicate (size_of layout) 0)
+unfolding bytes_loaded
 loaded-zeros layout statics = refl

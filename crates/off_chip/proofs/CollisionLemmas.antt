@@ -60,7 +60,7 @@ stands entry (first ∷ entries) some =
           record { before = first ∷ later.before; rest = later.rest; parts = ap (λ (xs : List LogEntry). first ∷ xs) later.parts }
     ]
 
--- the same entries have one length and one sum
+-- lists that are one multiset have one length and one sum
 same-sums : (value : LogEntry → ℕ) (entries others : List LogEntry) → SameEntries entries others → (length entries ≡ length others) × (sum_by value entries ≡ sum_by value others)
 same-sums value [] [] same = (refl, refl)
 same-sums value [] (first ∷ others) same =

@@ -7,7 +7,7 @@ use Rattle.aegis_num.specs.declared.storage.Place.{Place}
 use Rattle.aegis_num.specs.declared.storage.Place.TheVariants.{Tree}
 use Rattle.off_chip.specs.declared.event.Event.{Event}
 use Rattle.off_chip.specs.declared.event.Event.TheVariants.{BlockRead, BlockWrite}
-use Rattle.off_chip.specs.Histories.{History, no_event, ◌◂◌, or_else, history}
+use Rattle.off_chip.specs.Histories.{History, no_event, ◌◂◌, first_told, history}
 use Rattle.off_chip.specs.WriteBacks.{same_place, written_at, read_at}
 use Rattle.off_chip.specs.ExpectedDigests.{Digests, digest_told, expected_digest, IsExpectedDigest, of_root, of_write, of_parent}
 use Rattle.off_chip.proofs.HistoryLemmas.{filter_map-nil, nil-filter_map, ToldAt, newest-ToldAt, ToldAt-newest}
@@ -144,14 +144,14 @@ expected_digest-in_order tree n trace expected = (
 -- ---- what one event does
 
 pub expected_digest-write : (tree : Digests) (n : ℕ) (block : Block) (older : History) → expected_digest tree n (BlockWrite (Tree n) block ◂ older) ≡ Some (tree.digest n block)
-expected_digest-write tree n block older = ap (λ (o : Option (List ℕ)). or_else o (expected_digest tree n older)) (digest_told-write tree n block)
+expected_digest-write tree n block older = ap (λ (o : Option (List ℕ)). first_told o (expected_digest tree n older)) (digest_told-write tree n block)
 
 pub expected_digest-parent : (tree : Digests) (n : ℕ) (block : Block) (older : History) → n ≢ 0
     → expected_digest tree n (BlockRead (Tree (tree.parent n)) block ◂ older) ≡ Some (tree.slot n block.payload)
-expected_digest-parent tree n block older other = ap (λ (o : Option (List ℕ)). or_else o (expected_digest tree n older)) (digest_told-parent tree n block other)
+expected_digest-parent tree n block older other = ap (λ (o : Option (List ℕ)). first_told o (expected_digest tree n older)) (digest_told-parent tree n block other)
 
 -- an event that does not write the block, and does not read the parent of a block other than block 0, changes nothing
 pub expected_digest-other : (tree : Digests) (n : ℕ) (event : Event) (older : History) → written_at (Tree n) event ≡ None
     → (n ≡ 0) ⊎ (read_at (Tree (tree.parent n)) event ≡ None) → expected_digest tree n (event ◂ older) ≡ expected_digest tree n older
 expected_digest-other tree n event older unwritten unread =
-    ap (λ (o : Option (List ℕ)). or_else o (expected_digest tree n older)) (untold tree n event unwritten unread)
+    ap (λ (o : Option (List ℕ)). first_told o (expected_digest tree n older)) (untold tree n event unwritten unread)

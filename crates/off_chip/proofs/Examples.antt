@@ -8,7 +8,7 @@ use Rattle.off_chip.specs.declared.loading.TheConstants.{RESUME_WORD}
 use Rattle.off_chip.specs.declared.event.Who.TheVariants.{Secure, Untrusted}
 use Rattle.off_chip.specs.declared.event.Mark.TheVariants.{Suspend}
 use Rattle.off_chip.specs.declared.event.Event.TheVariants.{WordRead, WordWrite, Note}
-use Rattle.off_chip.specs.OffChipBytes.{IsWordAddress, bytes_at, put, size_of, start_of_place, static_block, static_place, stored}
+use Rattle.off_chip.specs.OffChipBytes.{IsWordAddress, bytes_at, bytes_put, size_of, start_of_place, static_block, static_place, stored}
 use Rattle.off_chip.specs.AnsweredReads.{IsAnswered}
 use Rattle.off_chip.specs.BusCalls.{AppendsOne, IsInside}
 
@@ -48,7 +48,7 @@ stored_block : stored (record { payload = 7 ∷ 8 ∷ []; stamp = 0x010203040506
 stored_block = refl
 
 -- bytes that are put, and bytes that are read
-puts : (put 1 (7 ∷ 8 ∷ []) (0 ∷ 0 ∷ 0 ∷ 0 ∷ []) ≡ 0 ∷ 7 ∷ 8 ∷ 0 ∷ []) × (bytes_at 1 2 (1 ∷ 2 ∷ 3 ∷ 4 ∷ []) ≡ 2 ∷ 3 ∷ [])
+puts : (bytes_put 1 (7 ∷ 8 ∷ []) (0 ∷ 0 ∷ 0 ∷ 0 ∷ []) ≡ 0 ∷ 7 ∷ 8 ∷ 0 ∷ []) × (bytes_at 1 2 (1 ∷ 2 ∷ 3 ∷ 4 ∷ []) ≡ 2 ∷ 3 ∷ [])
 puts = (refl, refl)
 
 -- the last open word

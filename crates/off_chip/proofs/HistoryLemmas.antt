@@ -7,7 +7,7 @@ use Rattle.std.proofs.lemmas.List.{append-nil, append_assoc}
 use Rattle.std.proofs.lemmas.List.Elements.{filter_map-append}
 use Rattle.std.proofs.lemmas.List.Folds.{list_any-append}
 use Rattle.off_chip.specs.declared.event.Event.{Event}
-use Rattle.off_chip.specs.Histories.{History, no_event, ◌◂◌, followed, history, in_order, Each, EachCut, AtEach, AtEachCut, or_else, newest, since, until, EachSince}
+use Rattle.off_chip.specs.Histories.{History, no_event, ◌◂◌, followed, history, in_order, Each, EachCut, AtEach, AtEachCut, first_told, newest, since, until, EachSince}
 
 -- ---- histories and traces
 
@@ -127,17 +127,17 @@ points-tests kind test trace = (
 
 -- ---- the latest event that tells something
 
-pub or_else-assoc : {X : Type 0} (a b c : Option X) → or_else (or_else a b) c ≡ or_else a (or_else b c)
+pub or_else-assoc : {X : Type 0} (a b c : Option X) → first_told (first_told a b) c ≡ first_told a (first_told b c)
 or_else-assoc None b c = refl
 or_else-assoc (Some x) b c = refl
 
-or_else-none : {X : Type 0} (o p : Option X) → or_else o p ≡ None → (o ≡ None) × (p ≡ None)
+or_else-none : {X : Type 0} (o p : Option X) → first_told o p ≡ None → (o ≡ None) × (p ≡ None)
 or_else-none None p none = (refl, none)
 or_else-none (Some x) p none = cc
 
 pub newest-untold : {X : Type 0} (f : Event → History → Option X) (event : Event) (older : History) → f event older ≡ None
     → newest f (event ◂ older) ≡ newest f older
-newest-untold f event older tells = ap (λ (o : Option _). or_else o (newest f older)) tells
+newest-untold f event older tells = ap (λ (o : Option _). first_told o (newest f older)) tells
 
 -- where further events tell nothing
 pub newest-nothing : {X : Type 0} (f : Event → History → Option X) (older : History) (rest : List Event)
@@ -190,17 +190,17 @@ newest-told f older (event ∷ rest) x same =
       | inr before ↦ by (f event older) refl before.0 before.1
     ]
   where
-    by : (o : Option _) → f event older ≡ o → or_else (f event older) (newest f older) ≡ Some x → UntoldIn f (event ◂ older) rest
+    by : (o : Option _) → f event older ≡ o → first_told (f event older) (newest f older) ≡ Some x → UntoldIn f (event ◂ older) rest
         → ToldAt f older (event ∷ rest) x ⊎ ((newest f older ≡ Some x) × UntoldIn f older (event ∷ rest))
     by (Some y) tells found nothing = inl (record {
       between = [];
       event = event;
       last = rest;
       parts = refl;
-      answer = tells ∙ sym (ap (λ (o : Option _). or_else o (newest f older)) tells) ∙ found;
+      answer = tells ∙ sym (ap (λ (o : Option _). first_told o (newest f older)) tells) ∙ found;
       nothing_after = nothing;
     })
-    by None tells found nothing = inr (sym (ap (λ (o : Option _). or_else o (newest f older)) tells) ∙ found, untold-cons f older event rest tells nothing)
+    by None tells found nothing = inr (sym (ap (λ (o : Option _). first_told o (newest f older)) tells) ∙ found, untold-cons f older event rest tells nothing)
 
 -- in order: the answer of a trace stands at one of its events
 pub newest-ToldAt : {X : Type 0} (f : Event → History → Option X) (trace : List Event) (x : X) → newest f (history trace) ≡ Some x → ToldAt f no_event trace x
@@ -211,7 +211,7 @@ ToldAt-newest f trace x at =
     ap (λ (h : History). newest f h) (history-cut trace at.between at.event at.last at.parts)
     ∙ newest-nothing f (at.event ◂ history at.between) at.last
     (λ middle later end same. ap (λ (h : History). f later h) (sym (followed-append no_event at.between (at.event ∷ middle))) ∙ at.nothing_after middle later end same)
-    ∙ ap (λ (o : Option _). or_else o (newest f (history at.between))) at.answer
+    ∙ ap (λ (o : Option _). first_told o (newest f (history at.between))) at.answer
 
 -- ---- where what an event tells does not depend on those before it
 
@@ -236,22 +236,22 @@ nil-filter_map f (event ∷ rest) none =
 
 -- what further events tell, or what was told before
 pub newest-followed : {X : Type 0} (f : Event → Option X) (older : History) (rest : List Event)
-    → newest (λ event _. f event) (followed older rest) ≡ or_else (newest (λ event _. f event) (history rest)) (newest (λ event _. f event) older)
+    → newest (λ event _. f event) (followed older rest) ≡ first_told (newest (λ event _. f event) (history rest)) (newest (λ event _. f event) older)
 newest-followed f older [] = refl
 newest-followed f older (event ∷ rest) =
     newest-followed f (event ◂ older) rest
     ∙ sym (or_else-assoc (newest (λ event _. f event) (history rest)) (f event) (newest (λ event _. f event) older))
-    ∙ ap (λ (o : Option _). or_else o (newest (λ event _. f event) older))
-    (ap (λ (o : Option _). or_else (newest (λ event _. f event) (history rest)) o) (none_after (f event)) ∙ sym (newest-followed f (event ◂ no_event) rest))
+    ∙ ap (λ (o : Option _). first_told o (newest (λ event _. f event) older))
+    (ap (λ (o : Option _). first_told (newest (λ event _. f event) (history rest)) o) (none_after (f event)) ∙ sym (newest-followed f (event ◂ no_event) rest))
   where
-    none_after : {X : Type 0} (o : Option X) → o ≡ or_else o None
+    none_after : {X : Type 0} (o : Option X) → o ≡ first_told o None
     none_after None = refl
     none_after (Some x) = refl
 
 pub newest-none : {X : Type 0} (f : Event → Option X) (trace : List Event) → newest (λ event _. f event) (history trace) ≡ None → filter_map f trace ≡ []
 newest-none f [] none = refl
 newest-none f (event ∷ rest) none =
-    let parts = or_else-none (newest (λ event _. f event) (history rest)) (or_else (f event) None) (sym (newest-followed f (event ◂ no_event) rest) ∙ none) in
+    let parts = or_else-none (newest (λ event _. f event) (history rest)) (first_told (f event) None) (sym (newest-followed f (event ◂ no_event) rest) ∙ none) in
     ap (λ (o : Option _). cons_option o (filter_map f rest)) (or_else-none (f event) None parts.1).0 ∙ newest-none f rest parts.0
 
 pub none-newest : {X : Type 0} (f : Event → Option X) (trace : List Event) → filter_map f trace ≡ [] → newest (λ event _. f event) (history trace) ≡ None

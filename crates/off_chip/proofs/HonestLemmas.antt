@@ -16,8 +16,8 @@ use Rattle.regions.proofs.TreeLaws.{data_block_has_place}
 use Rattle.off_chip.specs.declared.event.Event.{Event}
 use Rattle.off_chip.specs.declared.event.Event.TheVariants.{BlockRead, BlockWrite, WordRead, WordWrite, Note}
 use Rattle.off_chip.specs.declared.loading.TheConstants.{RESUME_WORD}
-use Rattle.off_chip.specs.Histories.{History, no_event, ◌◂◌, in_order, history, or_else}
-use Rattle.off_chip.specs.OffChipBytes.{HasPlace, IsWordAddress, bytes_at, loaded, put, size_of, start_of_place, static_block, static_blocks, static_place, stored, with_statics}
+use Rattle.off_chip.specs.Histories.{History, no_event, ◌◂◌, in_order, history, first_told}
+use Rattle.off_chip.specs.OffChipBytes.{HasPlace, IsWordAddress, bytes_at, bytes_loaded, bytes_put, size_of, start_of_place, static_block, static_blocks, static_place, stored, with_statics}
 use Rattle.off_chip.specs.AnsweredReads.{Holds, after_event, after_events, IsAnswered}
 use Rattle.off_chip.specs.BlockPlaces.{AllInside, LiesInside}
 use Rattle.off_chip.specs.StaticBlocks.{static_at, IsStatic}
@@ -39,19 +39,19 @@ take-front (suc k) (suc at) [] after low high = let no_such : ⊥ = omega (arith
 take-front (suc k) (suc at) (x ∷ memory) after low high = ap (λ (xs : List ℕ). x ∷ xs) (take-front k at memory after (omega (arith, low)) (omega (arith, high)))
 
 -- they stand where they were put
-pub bytes_at-put : (at n : ℕ) (bytes memory : List ℕ) → at ≤ length memory → length bytes ≡ n → bytes_at at n (put at bytes memory) ≡ bytes
+pub bytes_at-put : (at n : ℕ) (bytes memory : List ℕ) → at ≤ length memory → length bytes ≡ n → bytes_at at n (bytes_put at bytes memory) ≡ bytes
 bytes_at-put at n bytes memory within long =
     ap (λ (xs : List ℕ). take n xs) (drop_at (take at memory) (bytes ++ drop (at + length bytes) memory) at (length-take-le at memory within))
     ∙ take_at bytes (drop (at + length bytes) memory) n long
 
 -- bytes before them and after them stay
-pub bytes_at-before : (place n at : ℕ) (bytes memory : List ℕ) → place + n ≤ at → at ≤ length memory → bytes_at place n (put at bytes memory) ≡ bytes_at place n memory
+pub bytes_at-before : (place n at : ℕ) (bytes memory : List ℕ) → place + n ≤ at → at ≤ length memory → bytes_at place n (bytes_put at bytes memory) ≡ bytes_at place n memory
 bytes_at-before place n at bytes memory low within =
-    sym (drop-take place n (put at bytes memory))
+    sym (drop-take place n (bytes_put at bytes memory))
     ∙ ap (λ (xs : List ℕ). drop place xs) (take-front (place + n) at memory (bytes ++ drop (at + length bytes) memory) low within)
     ∙ drop-take place n memory
 
-pub bytes_at-after : (place n at : ℕ) (bytes memory : List ℕ) → at + length bytes ≤ place → at ≤ length memory → bytes_at place n (put at bytes memory) ≡ bytes_at place n memory
+pub bytes_at-after : (place n at : ℕ) (bytes memory : List ℕ) → at + length bytes ≤ place → at ≤ length memory → bytes_at place n (bytes_put at bytes memory) ≡ bytes_at place n memory
 bytes_at-after place n at bytes memory high within =
     let front : length (take at memory ++ bytes) ≡ at + length bytes = omega (arith, length-append (take at memory) bytes, length-take-le at memory within) in
     ap (λ (xs : List ℕ). take n (drop place xs)) (sym (append_assoc (take at memory) bytes (drop (at + length bytes) memory)))
@@ -96,7 +96,7 @@ place-within layout (Log n) has = (omega arith, HasPlace-within layout (Log n) h
 -- bytes that are put over another place
 elsewhere : (layout : Layout) (place other : Place) (bytes memory : List ℕ) → HasPlace layout place → HasPlace layout other → place ≢ other
     → length bytes ≡ STORED_BLOCK_BYTES → length memory ≡ size_of layout
-    → bytes_at (start_of_place layout place) STORED_BLOCK_BYTES (put (start_of_place layout other) bytes memory) ≡ bytes_at (start_of_place layout place) STORED_BLOCK_BYTES memory
+    → bytes_at (start_of_place layout place) STORED_BLOCK_BYTES (bytes_put (start_of_place layout other) bytes memory) ≡ bytes_at (start_of_place layout place) STORED_BLOCK_BYTES memory
 elsewhere layout place other bytes memory has has_other apart long size =
     let within = (place-within layout other has_other).1 in
     elim (places-apart layout place other has has_other apart) [
@@ -106,7 +106,7 @@ elsewhere layout place other bytes memory has has_other apart long size =
 
 -- open bytes
 below-blocks : (layout : Layout) (place : Place) (at : ℕ) (bytes memory : List ℕ) → HasPlace layout place → at + length bytes ≤ OPEN_END → length memory ≡ size_of layout
-    → bytes_at (start_of_place layout place) STORED_BLOCK_BYTES (put at bytes memory) ≡ bytes_at (start_of_place layout place) STORED_BLOCK_BYTES memory
+    → bytes_at (start_of_place layout place) STORED_BLOCK_BYTES (bytes_put at bytes memory) ≡ bytes_at (start_of_place layout place) STORED_BLOCK_BYTES memory
 below-blocks layout place at bytes memory has low size =
     let within = place-within layout place has in
     bytes_at-after (start_of_place layout place) STORED_BLOCK_BYTES at bytes memory (omega (arith, low, within.0)) (omega (arith, low, within.0, within.1, size))
@@ -144,7 +144,7 @@ with_statics-holds layout statics memory long size (suc count) few =
     let has = static-place layout count (omega (arith, few)) in
     let within = (place-within layout (static_place layout count) has).1 in
     let wide = length-stored (static_block statics count) (whole-static statics count (static_blocks layout) long (omega (arith, few))) in
-    let more : with_statics layout statics (suc count) memory ≡ put start (stored (static_block statics count)) so_far =
+    let more : with_statics layout statics (suc count) memory ≡ bytes_put start (stored (static_block statics count)) so_far =
     ap (λ (k : ℕ). with_statics layout statics k memory) (sym (add-one count)) ∙ with_statics-more layout statics count memory in (
       ap (λ (xs : List ℕ). length xs) more ∙ length-put start (stored (static_block statics count)) so_far (omega (arith, within, wide, ih.0)) ∙ ih.0,
       λ n below.
@@ -156,15 +156,15 @@ with_statics-holds layout statics memory long size (suc count) few =
                 ∙ ih.1 n lt
             | inl (inr gt) ↦ let no_such : ⊥ = omega (arith, gt, below) in absurd no_such
             | inr same ↦
-                ap (λ (k : ℕ). bytes_at (start_of_place layout (static_place layout k)) STORED_BLOCK_BYTES (put start (stored (static_block statics count)) so_far)) same
+                ap (λ (k : ℕ). bytes_at (start_of_place layout (static_place layout k)) STORED_BLOCK_BYTES (bytes_put start (stored (static_block statics count)) so_far)) same
                 ∙ bytes_at-put start STORED_BLOCK_BYTES (stored (static_block statics count)) so_far (omega (arith, within, ih.0)) wide
                 ∙ ap (λ (k : ℕ). stored (static_block statics k)) (sym same)
           ],
     )
 
 loaded-holds : (layout : Layout) (statics : List ℕ) → length statics ≡ BLOCK_BYTES * static_blocks layout
-    → (length (loaded layout statics) ≡ size_of layout)
-    × ((n : ℕ) → n < static_blocks layout → bytes_at (start_of_place layout (static_place layout n)) STORED_BLOCK_BYTES (loaded layout statics) ≡ stored (static_block statics n))
+    → (length (bytes_loaded layout statics) ≡ size_of layout)
+    × ((n : ℕ) → n < static_blocks layout → bytes_at (start_of_place layout (static_place layout n)) STORED_BLOCK_BYTES (bytes_loaded layout statics) ≡ stored (static_block statics n))
 loaded-holds layout statics long =
     let zeros = replicate (size_of layout) 0 in
     let placed = with_statics-holds layout statics zeros long (length-replicate (size_of layout) 0) (static_blocks layout) (omega arith) in
@@ -199,18 +199,18 @@ there (Some written) before = stored written
 
 after-holds : (layout : Layout) (place : Place) (event : Event) (memory before : List ℕ) (last : Option Block) → HasPlace layout place → IsFit layout event → length memory ≡ size_of layout
     → bytes_at (start_of_place layout place) STORED_BLOCK_BYTES memory ≡ there last before
-    → bytes_at (start_of_place layout place) STORED_BLOCK_BYTES (after_event layout event memory) ≡ there (or_else (written_at place event) last) before
+    → bytes_at (start_of_place layout place) STORED_BLOCK_BYTES (after_event layout event memory) ≡ there (first_told (written_at place event) last) before
 after-holds layout place (BlockWrite at block) memory before last has fit size holds =
     elim (cases_Bool (same_place place at)) [
       | inl same ↦
           let e : place ≡ at = (same_place-Decides place at).0 same in
-          ap (λ (p : Place). bytes_at (start_of_place layout p) STORED_BLOCK_BYTES (put (start_of_place layout at) (stored block) memory)) e
+          ap (λ (p : Place). bytes_at (start_of_place layout p) STORED_BLOCK_BYTES (bytes_put (start_of_place layout at) (stored block) memory)) e
           ∙ bytes_at-put (start_of_place layout at) STORED_BLOCK_BYTES (stored block) memory (omega (arith, (place-within layout at fit.0.place).1, size)) (length-stored block fit.1)
-          ∙ ap (λ (b : Bool). there (or_else (cond b (Some block) None) last) before) (sym same)
+          ∙ ap (λ (b : Bool). there (first_told (cond b (Some block) None) last) before) (sym same)
       | inr other ↦
           elsewhere layout place at (stored block) memory has fit.0.place (λ e. both_ways (same_place place at) other ((same_place-Decides place at).1 e)) (length-stored block fit.1) size
           ∙ holds
-          ∙ ap (λ (b : Bool). there (or_else (cond b (Some block) None) last) before) (sym other)
+          ∙ ap (λ (b : Bool). there (first_told (cond b (Some block) None) last) before) (sym other)
     ]
 after-holds layout place (WordWrite by at word) memory before last has fit size holds =
     below-blocks layout place at (to_be_bytes w32 word) memory has (IsWordAddress-within at fit.0.address) size ∙ holds
@@ -245,17 +245,17 @@ answered-at layout (first ∷ before) event rest memory answered = answered-at l
 -- what a block read holds
 pub read-holds : (layout : Layout) (statics : List ℕ) (before : List Event) (place : Place) (block : Block) (rest : List Event)
     → IsPlainTrace layout statics (before ++ BlockRead place block ∷ rest)
-    → stored block ≡ there (last_write place (history before)) (bytes_at (start_of_place layout place) STORED_BLOCK_BYTES (loaded layout statics))
+    → stored block ≡ there (last_write place (history before)) (bytes_at (start_of_place layout place) STORED_BLOCK_BYTES (bytes_loaded layout statics))
 read-holds layout statics before place block rest plain =
     let has = (plain.inside.each before (BlockRead place block) rest refl).place in
     let e : in_order (history before) ≡ before = in_order-history before in
-    let all = all-holds layout place (loaded layout statics) has (loaded-holds layout statics plain.long).0 (history before)
+    let all = all-holds layout place (bytes_loaded layout statics) has (loaded-holds layout statics plain.long).0 (history before)
     (λ front event later same.
     let parts : before ++ BlockRead place block ∷ rest ≡ front ++ event ∷ (later ++ BlockRead place block ∷ rest) =
     ap (λ (xs : List Event). xs ++ BlockRead place block ∷ rest) (sym e ∙ same) ∙ append_assoc front (event ∷ later) (BlockRead place block ∷ rest) in
     (plain.inside.each front event (later ++ BlockRead place block ∷ rest) parts, plain.whole.each front event (later ++ BlockRead place block ∷ rest) parts)) in
-    answered-at layout before (BlockRead place block) rest (loaded layout statics) plain.answered
-    ∙ ap (λ (t : List Event). bytes_at (start_of_place layout place) STORED_BLOCK_BYTES (after_events layout t (loaded layout statics))) (sym e)
+    answered-at layout before (BlockRead place block) rest (bytes_loaded layout statics) plain.answered
+    ∙ ap (λ (t : List Event). bytes_at (start_of_place layout place) STORED_BLOCK_BYTES (after_events layout t (bytes_loaded layout statics))) (sym e)
     ∙ all.1
 
 -- two whole blocks with the same bytes are the same
@@ -282,14 +282,14 @@ read-written layout statics before place block written rest plain last =
     stored-same block written (plain.whole.each before (BlockRead place block) rest refl)
     (plain.whole.each last.before (BlockWrite place written) (last.rest ++ BlockRead place block ∷ rest) parts)
     (read-holds layout statics before place block rest plain
-    ∙ ap (λ (o : Option Block). there o (bytes_at (start_of_place layout place) STORED_BLOCK_BYTES (loaded layout statics))) found)
+    ∙ ap (λ (o : Option Block). there o (bytes_at (start_of_place layout place) STORED_BLOCK_BYTES (bytes_loaded layout statics))) found)
 
 pub read-first : (layout : Layout) (statics : List ℕ) (before : List Event) (place : Place) (block : Block) (rest : List Event)
     → IsPlainTrace layout statics (before ++ BlockRead place block ∷ rest) → filter_map (written_at place) before ≡ []
-    → stored block ≡ bytes_at (start_of_place layout place) STORED_BLOCK_BYTES (loaded layout statics)
+    → stored block ≡ bytes_at (start_of_place layout place) STORED_BLOCK_BYTES (bytes_loaded layout statics)
 read-first layout statics before place block rest plain never =
     read-holds layout statics before place block rest plain
-    ∙ ap (λ (o : Option Block). there o (bytes_at (start_of_place layout place) STORED_BLOCK_BYTES (loaded layout statics))) ((last_write-never place before).1 never)
+    ∙ ap (λ (o : Option Block). there o (bytes_at (start_of_place layout place) STORED_BLOCK_BYTES (bytes_loaded layout statics))) ((last_write-never place before).1 never)
 
 read-faithful : (layout : Layout) (statics : List ℕ) (before : List Event) (place : Place) (block : Block) (rest : List Event)
     → IsPlainTrace layout statics (before ++ BlockRead place block ∷ rest)
@@ -306,7 +306,7 @@ read-faithful layout statics before place block rest plain first None found (Som
     let at = (static_at-is layout statics place payload).0 is in
     let same : stored block ≡ stored (static_block statics at.n) =
     read-first layout statics before place block rest plain never
-    ∙ ap (λ (p : Place). bytes_at (start_of_place layout p) STORED_BLOCK_BYTES (loaded layout statics)) at.stands
+    ∙ ap (λ (p : Place). bytes_at (start_of_place layout p) STORED_BLOCK_BYTES (bytes_loaded layout statics)) at.stands
     ∙ (loaded-holds layout statics plain.long).1 at.n at.below in
     let e : block ≡ static_block statics at.n =
     stored-same block (static_block statics at.n) (plain.whole.each before (BlockRead place block) rest refl)

@@ -5,14 +5,14 @@ use Rattle.std.proofs.lemmas.List.{append-nil, append_assoc}
 use Rattle.std.proofs.lemmas.List.Sums.{sum_by_push}
 use Rattle.aegis_num.specs.declared.storage.Place.{Place}
 use Rattle.off_chip.specs.declared.event.Event.{Event}
-use Rattle.off_chip.specs.Histories.{History, ◌◂◌, or_else, newest, until}
+use Rattle.off_chip.specs.Histories.{History, ◌◂◌, first_told, newest, until}
 use Rattle.off_chip.specs.FaithfulReads.{is_faithful, AllFaithful}
 use Rattle.off_chip.specs.Residency.{check_told, in_check, concerning, is_resident}
 use Rattle.off_chip.specs.Epochs.{log_read, log_written, is_passed, reads_of, check_of, writes_of, open_epoch, ended_epoch, open_reads, open_writes}
 use Rattle.off_chip.specs.ExchangedWords.{sent, bytes_sent, pieces_sent}
 use Rattle.off_chip.proofs.HistoryLemmas.{filter_map-push}
 
-unwrap_or-or_else : {X : Type 0} (first second : Option X) (x : X) → unwrap_or (or_else first second) x ≡ unwrap_or first (unwrap_or second x)
+unwrap_or-or_else : {X : Type 0} (first second : Option X) (x : X) → unwrap_or (first_told first second) x ≡ unwrap_or first (unwrap_or second x)
 unwrap_or-or_else None second x = refl
 unwrap_or-or_else (Some y) second x = refl
 

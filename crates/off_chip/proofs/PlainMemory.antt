@@ -4,7 +4,7 @@ use Rattle.std.specs.Prelude.{IfSome}
 use Rattle.std.proofs.lemmas.List.{take_at}
 use Rattle.regions.specs.declared.layout.Layout.{Layout}
 use Rattle.off_chip.specs.declared.event.Event.{Event}
-use Rattle.off_chip.specs.OffChipBytes.{loaded, put}
+use Rattle.off_chip.specs.OffChipBytes.{bytes_loaded, bytes_put}
 use Rattle.off_chip.specs.AnsweredReads.{Holds, after_event, after_events, IsAnswered}
 use Rattle.off_chip.proofs.AnswerLemmas.{after_events-more, IsAnswered-more}
 use Rattle.off_chip.specs.declared.event.Event.TheVariants.{Note}
@@ -54,7 +54,7 @@ pub IsPlainMemory-more : {layout : Layout} {statics memory : List ℕ} {trace : 
     new_trace ≡ trace ++ event ∷ [] →
     IsPlainMemory layout statics new_memory new_trace in_tree
 IsPlainMemory-more {layout} {statics} {memory} {trace} event new_memory new_trace is holds inside whole bytes size more =
-    let start : List ℕ = loaded layout statics in
+    let start : List ℕ = bytes_loaded layout statics in
     let P : List ℕ → Type 0 = λ m. Holds layout m event in
     let Q : List Event → Type 0 = λ t. IsAnswered layout t start in
     record {
@@ -79,8 +79,8 @@ pub IsPlainMemory-put : {layout : Layout} {statics memory : List ℕ} {trace : L
     Holds layout memory event →
     LiesInside layout event →
     IfSome (moved_block event) IsWhole →
-    put start bytes memory ≡ after_event layout event memory →
-    written ≡ put start bytes memory →
+    bytes_put start bytes memory ≡ after_event layout event memory →
+    written ≡ bytes_put start bytes memory →
     length written ≡ length memory →
     len ≡ length memory →
     new_trace ≡ trace ++ event ∷ [] →

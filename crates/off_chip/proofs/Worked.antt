@@ -227,7 +227,7 @@ open_epoch : (open_reads (at 33) ≡ entry 1 0 4 ∷ [])
     × (open_writes (at 33) ≡ entry 0 9 7 ∷ entry 1 0 4 ∷ entry 1 2 8 ∷ [])
 open_epoch = (refl, refl, refl)
 
--- the same in order
+-- the epochs in order
 epochs-in_order : (reads_of (take 24 trace) ≡ open_reads (at 24))
     × (writes_of [] (take 24 trace) ≡ open_writes (at 24))
     × (writes_of (take 24 trace) (drop 25 trace) ≡ open_writes (at 33))

@@ -9,7 +9,7 @@ use Rattle.aegis_num.specs.declared.storage.Place.{Place}
 use Rattle.aegis_num.specs.declared.storage.Place.TheVariants.{Tree, Log}
 use Rattle.off_chip.specs.declared.event.Event.{Event}
 use Rattle.off_chip.specs.declared.event.Event.TheVariants.{BlockRead, BlockWrite, WordRead, WordWrite, Note}
-use Rattle.off_chip.specs.Histories.{History, no_event, ◌◂◌, followed, history, in_order, Each, or_else, newest}
+use Rattle.off_chip.specs.Histories.{History, no_event, ◌◂◌, followed, history, in_order, Each, first_told, newest}
 use Rattle.off_chip.specs.WriteBacks.{Stamped, same_place, written_at, read_at, last_write, IsLastWrite, stamp_written, block_writes, StampFits, StampsFit}
 use Rattle.off_chip.proofs.HistoryLemmas.{in_order-history, history-cut, newest-none, none-newest, newest-nothing, newest-ToldAt, ToldAt, ToldAt-newest, filter_map-nil, nil-filter_map, filter_map-push}
 
@@ -53,11 +53,11 @@ same_place-apart place other apart = false_from_ne_true (same_place place other)
 
 -- a write at the place is the last one, and a write elsewhere changes nothing
 pub last_write-here : (place : Place) (block : Block) (older : History) → last_write place (BlockWrite place block ◂ older) ≡ Some block
-last_write-here place block older = ap (λ (o : Option Block). or_else o (last_write place older)) (written_at-here place block)
+last_write-here place block older = ap (λ (o : Option Block). first_told o (last_write place older)) (written_at-here place block)
 
 pub last_write-elsewhere : (place at : Place) (block : Block) (older : History) → place ≢ at → last_write place (BlockWrite at block ◂ older) ≡ last_write place older
 last_write-elsewhere place at block older apart =
-    ap (λ (b : Bool). or_else (cond b (Some block) None) (last_write place older)) (same_place-apart place at apart)
+    ap (λ (b : Bool). first_told (cond b (Some block) None) (last_write place older)) (same_place-apart place at apart)
 
 -- ---- the last write-back, in order
 
@@ -170,7 +170,7 @@ StampsFit-in_order last trace =
 
 -- ---- the stamps of earlier writes
 
-written_or : (b : Bool) (written : Block) (o : Option Block) (block : Block) → or_else (cond b (Some written) None) o ≡ Some block → (written ≡ block) ⊎ (o ≡ Some block)
+written_or : (b : Bool) (written : Block) (o : Option Block) (block : Block) → first_told (cond b (Some written) None) o ≡ Some block → (written ≡ block) ⊎ (o ≡ Some block)
 written_or true written o block found = inl cc
 written_or false written o block found = inr found
 

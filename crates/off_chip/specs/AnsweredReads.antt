@@ -5,7 +5,7 @@ use Rattle.regions.specs.declared.addresses.TheConstants.{STORED_BLOCK_BYTES}
 use Rattle.regions.specs.declared.layout.Layout.{Layout}
 use Rattle.off_chip.specs.declared.event.Event.{Event}
 use Rattle.off_chip.specs.declared.event.Event.TheVariants.{BlockRead, BlockWrite, WordRead, WordWrite, Note}
-use Rattle.off_chip.specs.OffChipBytes.{stored, start_of_place, bytes_at, put}
+use Rattle.off_chip.specs.OffChipBytes.{stored, start_of_place, bytes_at, bytes_put}
 
 -- a read holds the bytes that stand at its place
 abbrev pub Holds : Layout → List ℕ → Event → Type 0
@@ -18,9 +18,9 @@ Holds layout memory (Note mark) = Unit {0}
 -- a write puts its bytes, and nothing else changes memory
 abbrev pub after_event : Layout → Event → List ℕ → List ℕ
 after_event layout (BlockRead at block) memory = memory
-after_event layout (BlockWrite at block) memory = put (start_of_place layout at) (stored block) memory
+after_event layout (BlockWrite at block) memory = bytes_put (start_of_place layout at) (stored block) memory
 after_event layout (WordRead by at word) memory = memory
-after_event layout (WordWrite by at word) memory = put at (to_be_bytes w32 word) memory
+after_event layout (WordWrite by at word) memory = bytes_put at (to_be_bytes w32 word) memory
 after_event layout (Note mark) memory = memory
 
 -- the memory after events, from the memory before them

@@ -81,6 +81,6 @@ pub record LogCollision (value : LogEntry → ℕ) (trace : List Event) (number 
 pub record CollisionsNameTwo : Type 0 where
   -- a collision of blocks names two events
   pub events : (strings : Strings) (trace : List Event) (first second : ℕ) → BlockCollision strings trace first second → first ≢ second
-  -- the same entries have one sum, whatever the values
+  -- lists that are one multiset have one sum, whatever the values
   pub sums : (value : LogEntry → ℕ) (entries others : List LogEntry) → SameEntries entries others → sum_of value entries ≡ sum_of value others
   pub entry : (entry other : LogEntry) → Decides (same_entry entry other) (entry ≡ other)

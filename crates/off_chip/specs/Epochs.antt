@@ -20,16 +20,16 @@ pub record LogEntry : Type 0 where
   pub stamp : ℕ
 
 -- the entry of a block of the log
-abbrev pub entry_of : ℕ → Block → LogEntry
-entry_of n block = record { number = n; payload = block.payload; stamp = block.stamp }
+abbrev pub log_entry : ℕ → Block → LogEntry
+log_entry n block = record { number = n; payload = block.payload; stamp = block.stamp }
 
 -- the entry of a log read, and of a log write
 abbrev pub log_read : Event → Option LogEntry
-log_read (BlockRead (Log n) block) = Some (entry_of n block)
+log_read (BlockRead (Log n) block) = Some (log_entry n block)
 log_read event = None
 
 abbrev pub log_written : Event → Option LogEntry
-log_written (BlockWrite (Log n) block) = Some (entry_of n block)
+log_written (BlockWrite (Log n) block) = Some (log_entry n block)
 log_written event = None
 
 -- a check passed: it ends an epoch, and the next one begins

@@ -45,14 +45,14 @@ abbrev pub AtEachCut : (List Event → Type 0) → (List Event → Type 0) → L
 AtEachCut B P trace = (before rest : List Event) → trace ≡ before ++ rest → B before → P before
 
 -- the first of two answers, if it is one
-abbrev pub or_else : {X : Type 0} → Option X → Option X → Option X
-or_else None second = second
-or_else (Some x) second = Some x
+abbrev pub first_told : {X : Type 0} → Option X → Option X → Option X
+first_told None second = second
+first_told (Some x) second = Some x
 
 -- what a function of an event and of the history before it answers at the latest event at which it answers
 abbrev pub newest : {X : Type 0} → (Event → History → Option X) → History → Option X
 newest f no_event = None
-newest f (event ◂ older) = or_else (f event older) (newest f older)
+newest f (event ◂ older) = first_told (f event older) (newest f older)
 
 -- the events after the latest one that passes a test, in order
 abbrev pub since : (Event → Bool) → History → List Event

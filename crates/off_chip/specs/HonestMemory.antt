@@ -6,7 +6,7 @@ use Rattle.regions.specs.declared.addresses.TheConstants.{BLOCK_BYTES, OPEN_END,
 use Rattle.regions.specs.declared.layout.Layout.{Layout}
 use Rattle.off_chip.specs.declared.event.Event.{Event}
 use Rattle.off_chip.specs.declared.event.Event.TheVariants.{BlockRead, BlockWrite}
-use Rattle.off_chip.specs.OffChipBytes.{HasPlace, bytes_at, loaded, size_of, start_of_place, static_blocks, stored}
+use Rattle.off_chip.specs.OffChipBytes.{HasPlace, bytes_at, bytes_loaded, size_of, start_of_place, static_blocks, stored}
 use Rattle.off_chip.specs.AnsweredReads.{IsAnswered}
 use Rattle.off_chip.specs.BlockPlaces.{AllInside}
 use Rattle.off_chip.specs.StaticBlocks.{static_at}
@@ -36,7 +36,7 @@ pub record FirstReadsStatic (layout : Layout) (statics : List ℕ) (trace : List
 -- a trace that a plain memory may give: each read is answered, each event names a place that there is, and each block is whole
 pub record IsPlainTrace (layout : Layout) (statics : List ℕ) (trace : List Event) : Type 0 where
   pub long : length statics ≡ BLOCK_BYTES * static_blocks layout
-  pub answered : IsAnswered layout trace (loaded layout statics)
+  pub answered : IsAnswered layout trace (bytes_loaded layout statics)
   pub inside : AllInside layout trace
   pub whole : AllWhole trace
 
@@ -51,7 +51,7 @@ pub record PlainIsHonest : Type 0 where
       → IsPlainTrace layout statics (before ++ BlockRead place block ∷ rest) → IsLastWrite place before written → block ≡ written
   pub first : (layout : Layout) (statics : List ℕ) (before : List Event) (place : Place) (block : Block) (rest : List Event)
       → IsPlainTrace layout statics (before ++ BlockRead place block ∷ rest) → filter_map (written_at place) before ≡ []
-      → stored block ≡ bytes_at (start_of_place layout place) STORED_BLOCK_BYTES (loaded layout statics)
+      → stored block ≡ bytes_at (start_of_place layout place) STORED_BLOCK_BYTES (bytes_loaded layout statics)
   -- where each first read is of a static block, all reads are faithful
   pub faithful : (layout : Layout) (statics : List ℕ) (trace : List Event) → IsPlainTrace layout statics trace → FirstReadsStatic layout statics trace
       → AllReadsFaithful (static_at layout statics) trace

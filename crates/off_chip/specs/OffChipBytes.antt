@@ -40,8 +40,8 @@ abbrev pub bytes_at : ℕ → ℕ → List ℕ → List ℕ
 bytes_at at count memory = take count (drop at memory)
 
 -- the memory with these bytes put from a place on
-abbrev pub put : ℕ → List ℕ → List ℕ → List ℕ
-put at bytes memory = take at memory ++ (bytes ++ drop (at + length bytes) memory)
+abbrev pub bytes_put : ℕ → List ℕ → List ℕ → List ℕ
+bytes_put at bytes memory = take at memory ++ (bytes ++ drop (at + length bytes) memory)
 
 -- how many static blocks a layout has: the constant blocks and then the code blocks
 abbrev pub static_blocks : Layout → ℕ
@@ -59,17 +59,17 @@ static_block statics n = record { payload = bytes_at (BLOCK_BYTES * n) BLOCK_BYT
 unfoldable pub with_statics : Layout → List ℕ → ℕ → List ℕ → List ℕ
 with_statics layout statics zero memory = memory
 with_statics layout statics (suc n) memory =
-    put (start_of_place layout (static_place layout n)) (stored (static_block statics n)) (with_statics layout statics n memory)
+    bytes_put (start_of_place layout (static_place layout n)) (stored (static_block statics n)) (with_statics layout statics n memory)
 
 -- the word that stands where untrusted code starts: the instruction that resumes the program
 abbrev pub resume_word : ℕ
 resume_word = 0x70000003
 
 -- the memory with the static blocks and the word that resumes put at their places
-abbrev pub loaded_over : Layout → List ℕ → List ℕ → List ℕ
-loaded_over layout statics memory =
-    put UNTRUSTED_START (to_be_bytes w32 resume_word) (with_statics layout statics (static_blocks layout) memory)
+abbrev pub bytes_loaded_over : Layout → List ℕ → List ℕ → List ℕ
+bytes_loaded_over layout statics memory =
+    bytes_put UNTRUSTED_START (to_be_bytes w32 resume_word) (with_statics layout statics (static_blocks layout) memory)
 
 -- what memory begins with: these over zeros
-unfoldable pub loaded : Layout → List ℕ → List ℕ
-loaded layout statics = loaded_over layout statics (replicate (size_of layout) 0)
+unfoldable pub bytes_loaded : Layout → List ℕ → List ℕ
+bytes_loaded layout statics = bytes_loaded_over layout statics (replicate (size_of layout) 0)

@@ -2,7 +2,7 @@
 use Rattle.std.specs.Prelude.{ℕ, ◌≡◌, List}
 use Rattle.regions.specs.declared.layout.Layout.{Layout}
 use Rattle.off_chip.specs.declared.event.Event.{Event}
-use Rattle.off_chip.specs.OffChipBytes.{loaded}
+use Rattle.off_chip.specs.OffChipBytes.{bytes_loaded}
 use Rattle.off_chip.specs.AnsweredReads.{after_events}
 
 -- the layout, the static blocks that it began with, its events, and how many further ones there is room for
@@ -19,4 +19,4 @@ pub record SamePlain (a b : Plain) : Type 0 where
 
 -- the bytes that the next read is answered by: what it began with, and what was written since
 abbrev pub plain_contents : Plain → List ℕ
-plain_contents plain = after_events plain.layout plain.trace (loaded plain.layout plain.statics)
+plain_contents plain = after_events plain.layout plain.trace (bytes_loaded plain.layout plain.statics)

@@ -88,6 +88,6 @@ pub trait OffChip {
     /// What is the same as the same memory is the same.
     ghost transitive: { (a b c : Self) → same_memory a b → same_memory b c → same_memory a c };
 
-    /// The same memory tells the same layout.
+    /// States of one memory tell one layout.
     ghost same_layout: { (a b : Self) → same_memory a b → layout a ≡ layout b };
 }

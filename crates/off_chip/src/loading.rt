@@ -1,6 +1,6 @@
 //! What off-chip memory begins with.
 ghost use Rattle.std.specs.Prelude.{◌≡◌, ◌*◌, length, IfOk};
-ghost use Rattle.off_chip.specs.OffChipBytes.{loaded, loaded_over, size_of, static_blocks, with_statics};
+ghost use Rattle.off_chip.specs.OffChipBytes.{bytes_loaded, bytes_loaded_over, size_of, static_blocks, with_statics};
 
 use crate::stored::{
     blocks_of_tree, put_block, put_word, size_of, start_of, static_block, static_place,
@@ -29,7 +29,7 @@ fn put_statics(memory: &mut [u8], layout: &Layout, statics: &[u8])
 fn put_all(memory: &mut [u8], layout: &Layout, statics: &[u8])
     requires memory { length memory.old ≡ size_of layout.now }
     requires statics { length statics.now ≡ 64 * static_blocks layout.now }
-    ensures { memory.new ≡ loaded_over layout.now statics.now memory.old }
+    ensures { memory.new ≡ bytes_loaded_over layout.now statics.now memory.old }
 {
     put_statics(memory, layout, statics);
     put_word(memory, UNTRUSTED_START as usize, RESUME_WORD);
@@ -39,7 +39,7 @@ fn put_all(memory: &mut [u8], layout: &Layout, statics: &[u8])
 /// `RESUME_WORD` where untrusted code starts. That memory ran out is the one error.
 pub fn load(alloc: Global, layout: &Layout, statics: &[u8]) -> Result<Vec<u8>, OutOfMemory>
     requires statics { length statics.now ≡ 64 * static_blocks layout.now }
-    ensures bytes { IfOk result (λ memory. memory.items ≡ loaded layout.now statics.now) }
+    ensures bytes { IfOk result (λ memory. memory.items ≡ bytes_loaded layout.now statics.now) }
     ensures size { IfOk result (λ memory. length memory.items ≡ size_of layout.now) }
 {
     let mut memory = vec![in alloc; 0; size_of(layout)]?;

@@ -1,6 +1,6 @@
 //! A memory that answers each read with the last write there.
 ghost use Rattle.std.specs.Prelude.{◌≡◌, ◌*◌, ◌+◌, ◌<◌, ◌^◌, [], length, IfOk, Some};
-ghost use Rattle.off_chip.specs.OffChipBytes.{loaded, static_blocks};
+ghost use Rattle.off_chip.specs.OffChipBytes.{bytes_loaded, static_blocks};
 ghost use Rattle.off_chip.specs.HonestMemory.{IsPlainTrace};
 
 use crate::bus::OffChip;

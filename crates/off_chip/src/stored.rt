@@ -5,7 +5,7 @@ ghost use Rattle.std.specs.Int.{w32, w64, to_be_bytes};
 ghost use Rattle.regions.specs.declared.addresses.TheConstants.{STORED_BLOCK_BYTES};
 ghost use Rattle.regions.specs.Tree.{tree_blocks};
 ghost use Rattle.off_chip.specs.HonestMemory.{IsWhole};
-ghost use Rattle.off_chip.specs.OffChipBytes.{HasPlace, bytes_at, put, size_of, start_in, static_block, static_blocks, static_place, stored};
+ghost use Rattle.off_chip.specs.OffChipBytes.{HasPlace, bytes_at, bytes_put, size_of, start_in, static_block, static_blocks, static_place, stored};
 
 use aegis_num::{Block, Place};
 use regions::{BLOCK_BYTES, Layout, OPEN_END, STORED_BLOCK_BYTES, leaf};
@@ -58,7 +58,7 @@ fn stamp_at(memory: &[u8], at: usize) -> u64
 // Puts a stamp over the one at `at`.
 fn put_stamp(memory: &mut [u8], at: usize, stamp: u64)
     requires { at + 8 ≤ length memory.old }
-    ensures bytes { memory.new ≡ put at (to_be_bytes w64 stamp) memory.old }
+    ensures bytes { memory.new ≡ bytes_put at (to_be_bytes w64 stamp) memory.old }
     ensures limit { stamp < 2 ^ 64 }
 {
     memory[at..at + STAMP_BYTES].copy_from_slice(&stamp.to_be_bytes());
@@ -67,7 +67,7 @@ fn put_stamp(memory: &mut [u8], at: usize, stamp: u64)
 // Puts a payload over the one at `at`.
 fn put_payload(memory: &mut [u8], at: usize, payload: &[u8; PAYLOAD_BYTES])
     requires { at + 64 ≤ length memory.old }
-    ensures { memory.new ≡ put at payload.now memory.old }
+    ensures { memory.new ≡ bytes_put at payload.now memory.old }
 {
     memory[at..at + PAYLOAD_BYTES].copy_from_slice(payload);
 }
@@ -89,7 +89,7 @@ pub(crate) fn block_at(memory: &[u8], start: usize) -> Block
 /// Puts a block over the one at `start`.
 pub(crate) fn put_block(memory: &mut [u8], start: usize, block: &Block)
     requires { start + STORED_BLOCK_BYTES ≤ length memory.old }
-    ensures bytes { memory.new ≡ put start (stored block.now) memory.old }
+    ensures bytes { memory.new ≡ bytes_put start (stored block.now) memory.old }
     ensures long { length (stored block.now) ≡ STORED_BLOCK_BYTES }
     ensures whole { IsWhole block.now }
 {
@@ -110,7 +110,7 @@ pub(crate) fn word_at(memory: &[u8], at: usize) -> u32
 /// Puts a word over the one at an address.
 pub(crate) fn put_word(memory: &mut [u8], at: usize, word: u32)
     requires { at + 4 ≤ length memory.old }
-    ensures { memory.new ≡ put at (to_be_bytes w32 word) memory.old }
+    ensures { memory.new ≡ bytes_put at (to_be_bytes w32 word) memory.old }
 {
     memory[at..at + WORD_BYTES].copy_from_slice(&word.to_be_bytes());
 }

@@ -14,7 +14,7 @@ use Rattle.adversary_script.specs.ScriptRules.{may_precede, are_in_order}
 use Rattle.regions.specs.declared.layout.Layout.{Layout}
 use Rattle.scripted_dram.specs.declared.due.Count.{Count}
 use Rattle.scripted_dram.specs.declared.due.Count.TheVariants.{Events, Suspensions}
-use Rattle.scripted_dram.specs.ChangedStates.{State, changed, all_changed}
+use Rattle.scripted_dram.specs.ChangedStates.{StoredState, state_changed, states_changed}
 use Rattle.scripted_dram.specs.ScriptMemory.{changes_at}
 use Rattle.scripted_dram.specs.DueChanges.{awaited, is_due, is_below, is_above, is_now, goes_on, IsPassed}
 use Rattle.scripted_dram.specs.StoredStates.{Store, store_changed, all_stored}
@@ -97,9 +97,9 @@ are_in_order-drop (suc i) (change ∷ changes) order =
     are_in_order-drop i changes (and_parts (list_all (λ later. may_precede change.when later.when) changes) (are_in_order changes) order).1
 
 -- changes that are done one after another
-pub all_changed-append : (layout : Layout) (first further : List Change) (state : State) → all_changed layout (first ++ further) state ≡ all_changed layout further (all_changed layout first state)
+pub all_changed-append : (layout : Layout) (first further : List Change) (state : StoredState) → states_changed layout (first ++ further) state ≡ states_changed layout further (states_changed layout first state)
 all_changed-append layout [] further state = refl
-all_changed-append layout (change ∷ first) further state = all_changed-append layout first further (changed layout change.what state)
+all_changed-append layout (change ∷ first) further state = all_changed-append layout first further (state_changed layout change.what state)
 
 -- one change more, if it is due
 pub one_stored : (due : Bool) (change : Change) (before : List Change) (store : Store) → (if due then store_changed change.what (all_stored before store) else all_stored before store) ≡ all_stored (before ++ cond due (change ∷ []) []) store

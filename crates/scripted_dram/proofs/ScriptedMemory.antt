@@ -5,7 +5,7 @@ use Rattle.regions.specs.declared.layout.Layout.{Layout}
 use Rattle.adversary_script.specs.declared.change.Change.{Change}
 use Rattle.off_chip.specs.declared.event.Event.{Event}
 use Rattle.off_chip.specs.AnsweredReads.{Holds, after_event}
-use Rattle.scripted_dram.specs.ChangedStates.{State, all_changed}
+use Rattle.scripted_dram.specs.ChangedStates.{StoredState, states_changed}
 use Rattle.scripted_dram.specs.StoredStates.{Store, all_stored, with_memory}
 use Rattle.off_chip.specs.Boundaries.{is_suspend}
 use Rattle.scripted_dram.specs.ScriptMemory.{Moment, is_before_event, IsScripted, after_all, beginning, moment_after, changes_at, is_at_suspension, next, readied}
@@ -43,14 +43,14 @@ module _ {statics : List ℕ} {script : List Change} {trace : List Event} {suspe
   is_ready : ready.state ≡ readied storage.layout script here
   is_ready =
       ap (λ (store : Store). store.state) done
-      ∙ ap (λ k. all_changed storage.layout (changes_at (is_before_event k) changes) storage.state) events_are
-      ∙ ap (λ all. all_changed storage.layout (changes_at (is_before_event (length trace)) all) storage.state) changes_are
+      ∙ ap (λ k. states_changed storage.layout (changes_at (is_before_event k) changes) storage.state) events_are
+      ∙ ap (λ all. states_changed storage.layout (changes_at (is_before_event (length trace)) all) storage.state) changes_are
 
   module _ (event : Event) (holds : Holds ready.layout ready.state.memory event) where
     holds_here : Holds storage.layout (readied storage.layout script here).memory event
     holds_here =
         let P : Layout → Type 0 = λ layout. Holds layout ready.state.memory event in
-        let Q : State → Type 0 = λ state. Holds storage.layout state.memory event in
+        let Q : StoredState → Type 0 = λ state. Holds storage.layout state.memory event in
         subst Q is_ready (subst P same_layout holds)
 
     -- a read holds what stands in memory then
@@ -66,9 +66,9 @@ module _ {statics : List ℕ} {script : List Change} {trace : List Event} {suspe
       state_is : new.state ≡ (moment_after storage.layout script event ready.state here).state
       state_is =
           ap (λ (store : Store). store.state) written
-          ∙ ap (λ layout. all_changed layout (if is_suspend event then changes_at (is_at_suspension suspensions) changes else [])
+          ∙ ap (λ layout. states_changed layout (if is_suspend event then changes_at (is_at_suspension suspensions) changes else [])
           (record { memory = after_event layout event ready.state.memory; slots = ready.state.slots })) same_layout
-          ∙ ap (λ all. all_changed storage.layout (if is_suspend event then changes_at (is_at_suspension suspensions) all else [])
+          ∙ ap (λ all. states_changed storage.layout (if is_suspend event then changes_at (is_at_suspension suspensions) all else [])
           (record { memory = after_event storage.layout event ready.state.memory; slots = ready.state.slots })) changes_are
 
       long : length new_trace ≡ length trace + 1
@@ -76,7 +76,7 @@ module _ {statics : List ℕ} {script : List Change} {trace : List Event} {suspe
 
       made : moment_after storage.layout script event ready.state here ≡ record { state = new.state; events = length new_trace; suspensions = new_suspensions }
       made =
-          let built : State → ℕ → ℕ → Moment = λ state events k. record { state = state; events = events; suspensions = k } in
+          let built : StoredState → ℕ → ℕ → Moment = λ state events k. record { state = state; events = events; suspensions = k } in
           ap (λ state. built state (length trace + 1) (if is_suspend event then suspensions + 1 else suspensions)) (sym state_is)
           ∙ ap (λ events. built new.state events (if is_suspend event then suspensions + 1 else suspensions)) (sym long)
           ∙ ap (built new.state (length new_trace)) (sym counted)

@@ -11,8 +11,8 @@ use Rattle.adversary_script.specs.declared.change.Change.{Change}
 use Rattle.off_chip.specs.declared.event.Event.TheVariants.{WordRead, WordWrite, Note}
 use Rattle.off_chip.specs.declared.event.Mark.TheVariants as mark
 use Rattle.off_chip.specs.declared.event.Who.TheVariants.{Secure, Untrusted}
-use Rattle.off_chip.specs.OffChipBytes.{put, stored}
-use Rattle.scripted_dram.specs.ChangedStates.{block_in, kept_in, target_place, put_in, put_over, start_of_target}
+use Rattle.off_chip.specs.OffChipBytes.{bytes_put, stored}
+use Rattle.scripted_dram.specs.ChangedStates.{stored_in, kept_in, target_place, put_in, put_over, start_of_target}
 use Rattle.off_chip.specs.Boundaries.{is_suspend}
 use Rattle.scripted_dram.specs.ScriptMemory.{Moment, IsScripted, is_before_event, is_at_start, is_at_suspension}
 
@@ -62,13 +62,13 @@ stored_block : (block : Block) → block.payload ≡ 7 ∷ [] → block.stamp �
 stored_block block payload stamp = refl
 
 -- bytes, blocks and slots
-puts : (put 1 (7 ∷ 8 ∷ []) (0 ∷ 0 ∷ 0 ∷ 0 ∷ []) ≡ 0 ∷ 7 ∷ 8 ∷ 0 ∷ []) × (put_in (Some 1) 1 (7 ∷ []) (0 ∷ 0 ∷ 0 ∷ 0 ∷ []) ≡ 0 ∷ 0 ∷ 7 ∷ 0 ∷ []) × (put_in None 1 (7 ∷ []) (0 ∷ 0 ∷ []) ≡ 0 ∷ 0 ∷ [])
+puts : (bytes_put 1 (7 ∷ 8 ∷ []) (0 ∷ 0 ∷ 0 ∷ 0 ∷ []) ≡ 0 ∷ 7 ∷ 8 ∷ 0 ∷ []) × (put_in (Some 1) 1 (7 ∷ []) (0 ∷ 0 ∷ 0 ∷ 0 ∷ []) ≡ 0 ∷ 0 ∷ 7 ∷ 0 ∷ []) × (put_in None 1 (7 ∷ []) (0 ∷ 0 ∷ []) ≡ 0 ∷ 0 ∷ [])
 puts = (refl, refl, refl)
 
 overs : (put_over (Some 1) (Some (7 ∷ 8 ∷ [])) (0 ∷ 0 ∷ 0 ∷ 0 ∷ []) ≡ 0 ∷ 7 ∷ 8 ∷ 0 ∷ []) × (put_over (Some 1) None (0 ∷ 0 ∷ []) ≡ 0 ∷ 0 ∷ []) × (put_over None (Some (7 ∷ [])) (0 ∷ 0 ∷ []) ≡ 0 ∷ 0 ∷ [])
 overs = (refl, refl, refl)
 
-slots : (kept_in 1 (Some (7 ∷ [])) (None ∷ None ∷ []) ≡ None ∷ Some (7 ∷ []) ∷ []) × (kept_in 1 None (None ∷ Some (8 ∷ []) ∷ []) ≡ None ∷ Some (8 ∷ []) ∷ []) × (block_in None (1 ∷ []) ≡ None)
+slots : (kept_in 1 (Some (7 ∷ [])) (None ∷ None ∷ []) ≡ None ∷ Some (7 ∷ []) ∷ []) × (kept_in 1 None (None ∷ Some (8 ∷ []) ∷ []) ≡ None ∷ Some (8 ∷ []) ∷ []) × (stored_in None (1 ∷ []) ≡ None)
 slots = (refl, refl, refl)
 
 -- a beginning with eight zeros

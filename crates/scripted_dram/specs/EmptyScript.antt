@@ -2,7 +2,7 @@
 use Rattle.std.specs.Prelude.{ℕ, ◌↔◌, List, []}
 use Rattle.regions.specs.declared.layout.Layout.{Layout}
 use Rattle.off_chip.specs.declared.event.Event.{Event}
-use Rattle.off_chip.specs.OffChipBytes.{loaded}
+use Rattle.off_chip.specs.OffChipBytes.{bytes_loaded}
 use Rattle.off_chip.specs.AnsweredReads.{IsAnswered}
 use Rattle.scripted_dram.specs.ScriptMemory.{IsAnsweredBy}
 
@@ -10,4 +10,4 @@ use Rattle.scripted_dram.specs.ScriptMemory.{IsAnsweredBy}
 abbrev pub PlainUnderEmptyScript : Type 0
 PlainUnderEmptyScript =
     (layout : Layout) (statics : List ℕ) (trace : List Event) →
-    IsAnsweredBy layout statics [] trace ↔ IsAnswered layout trace (loaded layout statics)
+    IsAnsweredBy layout statics [] trace ↔ IsAnswered layout trace (bytes_loaded layout statics)

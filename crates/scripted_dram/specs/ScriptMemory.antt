@@ -8,13 +8,13 @@ use Rattle.adversary_script.specs.declared.change.When.TheVariants.{Start, At, S
 use Rattle.adversary_script.specs.declared.change.Change.{Change}
 use Rattle.off_chip.specs.declared.event.Event.{Event}
 use Rattle.off_chip.specs.Boundaries.{is_suspend}
-use Rattle.off_chip.specs.OffChipBytes.{loaded}
+use Rattle.off_chip.specs.OffChipBytes.{bytes_loaded}
 use Rattle.off_chip.specs.AnsweredReads.{Holds, after_event}
-use Rattle.scripted_dram.specs.ChangedStates.{State, all_changed}
+use Rattle.scripted_dram.specs.ChangedStates.{StoredState, states_changed}
 
 -- memory and slots, how many events there were, and how many of these were the mark Suspend
 pub record Moment : Type 0 where
-  pub state : State
+  pub state : StoredState
   pub events : ℕ
   pub suspensions : ℕ
 
@@ -44,20 +44,20 @@ changes_at test script = filter (λ change. test change.when) script
 -- what memory begins with: the load, with the `start` changes done
 abbrev pub beginning : Layout → List ℕ → List Change → Moment
 beginning layout statics script = record {
-  state = all_changed layout (changes_at is_at_start script) (record { memory = loaded layout statics; slots = replicate SAVE_SLOTS None });
+  state = states_changed layout (changes_at is_at_start script) (record { memory = bytes_loaded layout statics; slots = replicate SAVE_SLOTS None });
   events = 0;
   suspensions = 0;
 }
 
 -- memory just before the next event: the changes that are due are done
-abbrev pub readied : Layout → List Change → Moment → State
-readied layout script moment = all_changed layout (changes_at (is_before_event moment.events) script) moment.state
+abbrev pub readied : Layout → List Change → Moment → StoredState
+readied layout script moment = states_changed layout (changes_at (is_before_event moment.events) script) moment.state
 
 -- the moment after an event, from memory just before it: a write puts its bytes, and the suspension of number K, counted
 -- from 0, is followed by the `suspend K` changes
-abbrev pub moment_after : Layout → List Change → Event → State → Moment → Moment
+abbrev pub moment_after : Layout → List Change → Event → StoredState → Moment → Moment
 moment_after layout script event ready moment = record {
-  state = all_changed layout (if is_suspend event then changes_at (is_at_suspension moment.suspensions) script else [])
+  state = states_changed layout (if is_suspend event then changes_at (is_at_suspension moment.suspensions) script else [])
       (record { memory = after_event layout event ready.memory; slots = ready.slots });
   events = moment.events + 1;
   suspensions = if is_suspend event then moment.suspensions + 1 else moment.suspensions;

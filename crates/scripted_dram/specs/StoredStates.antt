@@ -6,12 +6,12 @@ use Rattle.adversary_script.specs.declared.change.What.{What}
 use Rattle.adversary_script.specs.declared.change.Change.{Change}
 use Rattle.regions.specs.Tree.{tree_blocks}
 use Rattle.off_chip.specs.OffChipBytes.{size_of}
-use Rattle.scripted_dram.specs.ChangedStates.{State, changed, all_changed}
+use Rattle.scripted_dram.specs.ChangedStates.{StoredState, state_changed, states_changed}
 
 -- the layout, and memory and slots
 pub record Store : Type 0 where
   pub layout : Layout
-  pub state : State
+  pub state : StoredState
 
 -- the store with other bytes in memory
 abbrev pub with_memory : List ℕ → Store → Store
@@ -19,11 +19,11 @@ with_memory memory store = record { layout = store.layout; state = record { memo
 
 -- the store once a change was done
 abbrev pub store_changed : What → Store → Store
-store_changed what store = record { layout = store.layout; state = changed store.layout what store.state }
+store_changed what store = record { layout = store.layout; state = state_changed store.layout what store.state }
 
 -- the store once changes were done, in order
 abbrev pub all_stored : List Change → Store → Store
-all_stored changes store = record { layout = store.layout; state = all_changed store.layout changes store.state }
+all_stored changes store = record { layout = store.layout; state = states_changed store.layout changes store.state }
 
 -- the fields of a storage fit together
 pub record IsStore (layout : Layout) (in_tree : ℕ) (memory : List ℕ) (kept : List (Option (List ℕ))) : Type 0 where

@@ -1,6 +1,6 @@
 //! The changes of a script that are due.
 ghost use Rattle.std.specs.Prelude.{◌≡◌, ◌+◌, ◌<◌, ◌^◌, true, length, drop, if◌then◌else◌};
-ghost use Rattle.adversary_script.specs.ScriptRules.{KeepsRules, is_in_range};
+ghost use Rattle.adversary_script.specs.ScriptRules.{KeepsScriptRules, is_in_range};
 ghost use Rattle.scripted_dram.specs.ScriptMemory.{changes_at, is_at_start};
 ghost use Rattle.scripted_dram.specs.DueChanges.{IsPassed, goes_on, is_above, is_due, awaited};
 ghost use Rattle.scripted_dram.specs.StoredStates.{all_stored, store_changed};
@@ -75,7 +75,7 @@ pub fn do_due(
     count: Count,
     k: u64,
 ) -> usize
-    requires rules { KeepsRules changes.now }
+    requires rules { KeepsScriptRules changes.now }
     requires passed { IsPassed count k changes.now cursor }
     ensures done { storage.new ≡ all_stored (changes_at (is_due count k) changes.now) storage.old }
     ensures passed { IsPassed count (k + 1) changes.now result }
@@ -108,7 +108,7 @@ fn do_if_at_start(storage: &mut Storage, change: &Change)
 
 /// Does the changes that are done at the start, in order.
 pub fn do_at_start(storage: &mut Storage, changes: &[Change])
-    requires { KeepsRules changes.now }
+    requires { KeepsScriptRules changes.now }
     ensures { storage.new ≡ all_stored (changes_at is_at_start changes.now) storage.old }
 {
     for i in 0..changes.len() {

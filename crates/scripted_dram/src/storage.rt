@@ -7,7 +7,7 @@ ghost use Rattle.adversary_script.specs.declared.change.What.TheVariants.{Open, 
 ghost use Rattle.adversary_script.specs.ScriptRules.{is_in_range};
 ghost use Rattle.off_chip.specs.declared.event.Event.TheVariants.{BlockRead, BlockWrite, WordRead, WordWrite};
 ghost use Rattle.off_chip.specs.AnsweredReads.{Holds, after_event};
-ghost use Rattle.off_chip.specs.OffChipBytes.{HasPlace, IsWordAddress, loaded, size_of, static_blocks, start_of_place};
+ghost use Rattle.off_chip.specs.OffChipBytes.{HasPlace, IsWordAddress, bytes_loaded, size_of, static_blocks, start_of_place};
 ghost use Rattle.scripted_dram.specs.ChangedStates.{data_place, target_place, start_of_target};
 ghost use Rattle.scripted_dram.specs.StoredStates.{store_changed, with_memory};
 
@@ -80,7 +80,7 @@ impl Model for Storage {
 // What a memory begins with, in one region.
 fn load_region(alloc: Global, layout: &Layout, statics: &[u8]) -> Result<Region, OutOfMemory>
     requires { length statics.now ≡ 64 * static_blocks layout.now }
-    ensures bytes { IfOk result (λ memory. memory ≡ loaded layout.now statics.now) }
+    ensures bytes { IfOk result (λ memory. memory ≡ bytes_loaded layout.now statics.now) }
     ensures size { IfOk result (λ memory. length memory ≡ size_of layout.now) }
 {
     let bytes = load(alloc, layout, statics)?;
@@ -95,7 +95,7 @@ impl Storage {
         requires { length statics.now ≡ 64 * static_blocks layout.now }
         ensures { IfOk result (λ storage. storage ≡ record {
           layout = layout.now;
-          state = record { memory = loaded layout.now statics.now; slots = replicate SAVE_SLOTS None };
+          state = record { memory = bytes_loaded layout.now statics.now; slots = replicate SAVE_SLOTS None };
         }) }
     {
         let memory = load_region(alloc, layout, statics)?;

@@ -6,7 +6,7 @@ use super::*;
 use adversary_script::read_script;
 use aegis_num::limits::MAX_SCRIPT_BYTES;
 use aegis_num::{Block, Place};
-use off_chip::{Event, Mark, OffChip, PlainDram, Trace, Who, blocks_of_tree};
+use off_chip::{Event, Mark, OffChip, Trace, Who, blocks_of_tree};
 use regions::{Layout, OPEN_END};
 use std::alloc::Global;
 use std::test::Fail;
@@ -247,42 +247,5 @@ fn does_each_change_at_its_moment(rt: HostRuntime) -> Result<(), Fail> {
         let trace = replay(rt.alloc(), script, events)?;
         assert_eq!(rt; trace.events(), events, "{script}");
     }
-    Ok(())
-}
-
-#[test]
-fn is_a_plain_memory_under_an_empty_script(rt: HostRuntime) -> Result<(), Fail> {
-    let layout = small();
-    let statics = [9; 64];
-    let events = [
-        Event::Note(Mark::Enter),
-        writes(Place::Tree(0), filled(1, 1)),
-        reads(Place::Tree(2), filled(9, 0)),
-        writes(Place::Tree(2), filled(2, 0xfedc_ba98_7654_3210)),
-        Event::WordWrite {
-            by: Who::Untrusted,
-            at: 0xfffc,
-            word: 0x8765_4321,
-        },
-        reads(Place::Tree(2), filled(2, 0xfedc_ba98_7654_3210)),
-        reads(Place::Tree(0), filled(1, 1)),
-        word(Who::Secure, 0xfffc, 0x8765_4321),
-        writes(Place::Log(1), filled(3, 3)),
-        Event::Note(Mark::Suspend),
-        reads(Place::Log(1), filled(3, 3)),
-        reads(Place::Log(0), filled(0, 0)),
-        reads(Place::Tree(3), filled(0, 0)),
-        word(Who::Untrusted, 0x2000, 0x7000_0003),
-        Event::Note(Mark::Retire(Who::Untrusted)),
-    ];
-    let script = read_script(rt.alloc(), b"")?;
-    let mut scripted = ScriptedDram::new(rt.alloc(), &layout, &statics, script, 16)?;
-    call_all(&mut scripted, &layout, &events);
-    assert_eq!(rt; (scripted.events(), scripted.room()), (15, 1));
-    assert_eq!(rt; scripted.into_trace().events(), &events[..]);
-    let mut plain = PlainDram::new(rt.alloc(), &layout, &statics, 16)?;
-    call_all(&mut plain, &layout, &events);
-    assert_eq!(rt; (plain.events(), plain.room()), (15, 1));
-    assert_eq!(rt; plain.into_trace().events(), &events[..]);
     Ok(())
 }

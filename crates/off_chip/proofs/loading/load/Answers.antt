@@ -1,5 +1,5 @@
 use Rattle.std.proofs.Common.{◌≡◌, ap, ◌∙◌, sym, arith, replicate, length}
-use Rattle.off_chip.specs.OffChipBytes.{loaded_over, size_of}
+use Rattle.off_chip.specs.OffChipBytes.{bytes_loaded_over, size_of}
 use Rattle.off_chip.proofs.ByteLemmas.{loaded-zeros}
 use Rattle.off_chip.proofs.PlainMemory.{written_back}
 use Rattle.off_chip.proofs.loading.load.Goals as goal
@@ -16,6 +16,6 @@ returns c =
     let long : c.in_ok-memory.memory.len ≡ length before = omega (arith, c.deref_mut.ensures.len, ap length c.deref_mut.ensures.value) in
     let back = written_back c.put_all.new.memory before c.in_ok-memory.memory.len same long in
     record {
-      bytes = back ∙ c.put_all.ensures ∙ ap (loaded_over layout statics) (c.deref_mut.ensures.value ∙ zeros) ∙ sym (loaded-zeros layout statics);
+      bytes = back ∙ c.put_all.ensures ∙ ap (bytes_loaded_over layout statics) (c.deref_mut.ensures.value ∙ zeros) ∙ sym (loaded-zeros layout statics);
       size = omega (arith, ap length back, same, long, made.len, c.size_of.ensures.value);
     }

@@ -1,5 +1,5 @@
 use Rattle.std.proofs.Common.{◌≡◌, ap, ◌∙◌, sym, refl}
-use Rattle.off_chip.specs.OffChipBytes.{put, start_in, start_of_place, static_block, static_place, stored}
+use Rattle.off_chip.specs.OffChipBytes.{bytes_put, start_in, start_of_place, static_block, static_place, stored}
 use Rattle.off_chip.proofs.ByteLemmas.{with_statics-zero, with_statics-more}
 use Rattle.off_chip.proofs.loading.put_statics.Goals as goal
 
@@ -22,8 +22,8 @@ loop-n-preserved c =
       in_tree = c.loop-n.invariant.in_tree;
       blocks = refl;
       memory = c.put_block.ensures.bytes
-          ∙ ap (λ at. put at (stored c.static_block.result) c.loop-n.memory) start
-          ∙ ap (λ block. put (start_of_place layout (static_place layout n)) (stored block) c.loop-n.memory) c.static_block.ensures.value
-          ∙ ap (put (start_of_place layout (static_place layout n)) (stored (static_block statics n))) c.loop-n.invariant.memory
+          ∙ ap (λ at. bytes_put at (stored c.static_block.result) c.loop-n.memory) start
+          ∙ ap (λ block. bytes_put (start_of_place layout (static_place layout n)) (stored block) c.loop-n.memory) c.static_block.ensures.value
+          ∙ ap (bytes_put (start_of_place layout (static_place layout n)) (stored (static_block statics n))) c.loop-n.invariant.memory
           ∙ sym (with_statics-more layout statics n c.args.memory.now);
     }

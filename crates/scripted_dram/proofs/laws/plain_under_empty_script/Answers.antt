@@ -1,22 +1,22 @@
 use Rattle.std.proofs.Common.{◌≡◌, ℕ, Bool, true, false, if◌then◌else◌, List, [], ◌∷◌, refl, sym, ap, subst, ◌∙◌}
 use Rattle.regions.specs.declared.layout.Layout.{Layout}
 use Rattle.off_chip.specs.declared.event.Event.{Event}
-use Rattle.off_chip.specs.OffChipBytes.{loaded}
+use Rattle.off_chip.specs.OffChipBytes.{bytes_loaded}
 use Rattle.off_chip.specs.AnsweredReads.{Holds, IsAnswered, after_event}
-use Rattle.scripted_dram.specs.ChangedStates.{State, all_changed}
+use Rattle.scripted_dram.specs.ChangedStates.{StoredState, states_changed}
 use Rattle.off_chip.specs.Boundaries.{is_suspend}
 use Rattle.scripted_dram.specs.ScriptMemory.{Moment, IsScripted, beginning, next}
 use Rattle.scripted_dram.proofs.laws.plain_under_empty_script.Goals as goal
 
 -- no change is done, suspended or not
-none_done : (layout : Layout) (suspends : Bool) (state : State) → all_changed layout (if suspends then [] else []) state ≡ state
+none_done : (layout : Layout) (suspends : Bool) (state : StoredState) → states_changed layout (if suspends then [] else []) state ≡ state
 none_done layout true state = refl
 none_done layout false state = refl
 
 -- events put what they write, and nothing else changes memory
 memory_after : (layout : Layout) (event : Event) (moment : Moment) (memory : List ℕ) → moment.state.memory ≡ memory → (next layout [] event moment).state.memory ≡ after_event layout event memory
 memory_after layout event moment memory is =
-    ap (λ (state : State). state.memory) (none_done layout (is_suspend event) (record { memory = after_event layout event moment.state.memory; slots = moment.state.slots }))
+    ap (λ (state : StoredState). state.memory) (none_done layout (is_suspend event) (record { memory = after_event layout event moment.state.memory; slots = moment.state.slots }))
     ∙ ap (after_event layout event) is
 
 plainly : (layout : Layout) (events : List Event) (moment : Moment) (memory : List ℕ) → moment.state.memory ≡ memory → IsScripted layout [] events moment → IsAnswered layout events memory
@@ -34,7 +34,7 @@ scripted layout (event ∷ events) moment memory is answered =
 pub returns : goal.returns
 returns c = record {
   law = λ layout statics trace. (
-    plainly layout trace (beginning layout statics []) (loaded layout statics) refl,
-    scripted layout trace (beginning layout statics []) (loaded layout statics) refl,
+    plainly layout trace (beginning layout statics []) (bytes_loaded layout statics) refl,
+    scripted layout trace (beginning layout statics []) (bytes_loaded layout statics) refl,
   );
 }
