@@ -1,29 +1,28 @@
 -- The program of worked texts, and why others have none.
-use Rattle.std.proofs.Common.{◌≡◌, ℕ, Bool, true, false, true≢false, List, [], ◌∷◌, Result, Ok, Err, None, refl, sym, ap, ◌∙◌, arith}
+use Rattle.std.proofs.Common.{◌≡◌, ℕ, Bool, true, false, true≢false, List, [], ◌∷◌, Result, Ok, Err, None, refl, ap, arith}
 use Rattle.std.specs.Prelude.{codes}
 use Rattle.c_token.specs.declared.words.Word.TheVariants as w
 use Rattle.c_token.specs.declared.signs.Sign.TheVariants as s
 use Rattle.c_token.specs.declared.kinds.Kind.{Kind}
-use Rattle.c_token.specs.declared.kinds.Kind.TheVariants.{Name, Number, Word, Sign}
+use Rattle.c_token.specs.declared.kinds.Kind.TheVariants.{Name, Word, Sign}
 use Rattle.c_token.specs.declared.kinds.Token.{Token}
 use Rattle.c_token.specs.declared.kinds.TokenError.{TokenError}
 use Rattle.c_token.specs.declared.kinds.TokenError.TheVariants.{BadByte}
-use Rattle.c_token.specs.PlainText.{kinds_of}
-use Rattle.c_token.specs.TextTokens.{tokens_of, tokens_from, front_at, front_then, put_before, token_of_len, judged, block_comment}
+use Rattle.c_token.specs.TextTokens.{tokens_of, tokens_from, front_at, front_then, put_before, token_of_len, judged}
 use Rattle.c_grammar.specs.declared.item.Item.{Item}
 use Rattle.c_grammar.specs.declared.item.Item.TheVariants as item
 use Rattle.c_grammar.specs.declared.item.Storage.TheVariants as storage
 use Rattle.c_grammar.specs.declared.item.Program.{Program}
 use Rattle.c_grammar.specs.BoundedTokens.{numbered}
-use Rattle.c_grammar.specs.TokenPrograms.{HasProgram, IsExpectedAt, IsDeepAt, IsShallowBefore}
+use Rattle.c_grammar.specs.TokenPrograms.{HasProgram, IsExpectedAt, IsShallowBefore}
 use Rattle.c_grammar.proofs.PlaceLaws.{expected-one, expected-deep}
 use Rattle.c_descent.specs.ListParser.{sign_token, word_token, name_token, number_token, many, all, is_at_sign, is_at_word}
 use Rattle.c_descent.specs.StatementParser as st
 use Rattle.c_descent.specs.ProgramParser as p
 use Rattle.c_descent.proofs.Answered.{reads, refused_expected}
 use Rattle.c_descent.proofs.WorkedPlaces.{deep_text, deep_at_71}
-use Rattle.c_reader.specs.declared.error.SyntaxError.TheVariants.{Expected, Deep, OutOfMemory}
-use Rattle.c_reader.specs.SourceText.{IsRefusedAs, HasTokens, HasTokenFault, HasSyntaxFault}
+use Rattle.c_reader.specs.declared.error.SyntaxError.TheVariants.{Expected, Deep}
+use Rattle.c_reader.specs.SourceText.{IsRefusedAs, HasTokenFault, HasSyntaxFault}
 use Rattle.c_reader.proofs.Answering.{one_of_text}
 
 token : ℕ → Kind → Token

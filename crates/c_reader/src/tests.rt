@@ -17,7 +17,9 @@ fn outcome_of(
     alloc: Global,
     text: &str,
 ) -> Result<Result<usize, SyntaxError>, Fail> {
-    let tokens = tokens(alloc, text.as_bytes())?;
+    let text = text.as_bytes();
+    assert!(rt; text.len() as u64 <= MAX_SOURCE_BYTES);
+    let tokens = tokens(alloc, text)?;
     Ok(outcome(rt, alloc, tokens.as_slice()))
 }
 
@@ -61,6 +63,7 @@ fn names_the_faulty_token(rt: HostRuntime) -> Result<(), Fail> {
             text.extend_from_slice(piece.as_bytes())?;
         }
         text.extend_from_slice(after.as_bytes())?;
+        assert!(rt; text.len() as u64 <= MAX_SOURCE_BYTES);
         let tokens = tokens(rt.alloc(), text.as_slice())?;
         let found = outcome(&rt, rt.alloc(), tokens.as_slice());
         assert_eq!(rt; found, Err(SyntaxError::Deep { token }), "{piece}");
