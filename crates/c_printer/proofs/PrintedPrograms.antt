@@ -20,7 +20,7 @@ use Rattle.c_grammar.specs.TokenPrograms.{limit}
 use Rattle.c_grammar.specs.BoundedTokens as toks
 use Rattle.c_grammar.specs.BoundedTokens.{Spot, Bounded, bounded_kinds, name, sign, word}
 use Rattle.c_grammar.specs.ProgramGrammar.{IsStorage, IsLength, IsValue, AreValues, AreInitial, IsResult, IsParameter, AreListed, AreParameters, IsPrivate, IsItem, AreItems, IsProgram}
-use Rattle.c_printer.specs.PrintedTokens.{type_kind, with_commas, after_commas, storage_kinds, length_kinds, value_kinds, values_kinds, result_kind, parameter_kinds, parameters_kinds, in_a_row, stmt_kinds, block_kinds, item_kinds, items_kinds, program_kinds}
+use Rattle.c_printer.specs.PrintedTokens.{type_kind, with_commas, after_commas, storage_kinds, length_kinds, value_kinds, values_kinds, answer_kind, parameter_kinds, parameters_kinds, in_a_row, stmt_kinds, block_kinds, item_kinds, items_kinds, program_kinds}
 use Rattle.c_printer.proofs.FineTokens.{IsFine, AreFine, fine-append, fine-join, piece}
 use Rattle.c_printer.proofs.PrintedStatements.{type_token, printed_type, printed_body}
 
@@ -70,7 +70,7 @@ printed_initial (AreInitial.single {x = x} d) = printed_value d ∙ sym (append-
 printed_initial (AreInitial.braced {ts = ts} left right d) = ap (λ ks. kinds.Sign signs.LeftBrace ∷ ks) (piece ts (sign right signs.RightBrace ∷ []) (printed_values d))
 
 abbrev PrintedResult : Kind3 → Type 0
-PrintedResult result = (t : Bounded) × (IsResult (t ∷ []) result × (t.kind ≡ result_kind result) × IsFine t)
+PrintedResult result = (t : Bounded) × (IsResult (t ∷ []) result × (t.kind ≡ answer_kind result) × IsFine t)
 
 printed_result : {ts : List Bounded} {result : Kind3} → IsResult ts result → AreFine ts → PrintedResult result
 printed_result (IsResult.int at d) fine = let type = printed_type d fine in (type_token at false, (IsResult.int at type.0, refl, type.1))
@@ -200,7 +200,7 @@ printed_item (IsItem.function {ts = ts} {us = us} {vs = vs} {ws = ws} {is_privat
       ts ++ tail,
       (
         IsItem.function at left right start end text d answer.1.0 list.1.0 block.1.0,
-        function_kinds ts answer.0 (sign left signs.LeftParenthesis ∷ (list.0 ++ tail2)) (if is_private then kinds.Word words.Private ∷ [] else []) (result_kind result) text at
+        function_kinds ts answer.0 (sign left signs.LeftParenthesis ∷ (list.0 ++ tail2)) (if is_private then kinds.Word words.Private ∷ [] else []) (answer_kind result) text at
             (parameters_kinds params ++ block_kinds body) (printed_private d) answer.1.1 (signature list.0 block.0 right start end params body list.1.1 block.1.1),
         fine-join ts tail p1.0 (answer.1.2, (p2.1.0, (p2.1.1.0, fine-join list.0 tail2 list.1.2 (p3.1.0, (p3.1.1.0, fine-join block.0 (sign end signs.RightBrace ∷ []) block.1.2 p4.1))))),
       ),

@@ -147,10 +147,10 @@ values_kinds true values = kinds.Sign signs.LeftBrace ∷ (with_commas (map valu
 values_kinds false values = with_commas (map value_kinds values)
 
 -- what a function answers
-abbrev pub result_kind : Kind3 → Kind
-result_kind results.Int = kinds.Word words.Int
-result_kind results.Unsigned = kinds.Word words.Unsigned
-result_kind results.Void = kinds.Word words.Void
+abbrev pub answer_kind : Kind3 → Kind
+answer_kind results.Int = kinds.Word words.Int
+answer_kind results.Unsigned = kinds.Word words.Unsigned
+answer_kind results.Void = kinds.Word words.Void
 
 -- a parameter
 abbrev pub parameter_kinds : Parameter → List Kind
@@ -170,7 +170,7 @@ item_kinds (items.Constant unsigned name length values braces token) =
 item_kinds (items.Untrusted name token) =
     kinds.Word words.Untrusted ∷ kinds.Word words.Void ∷ kinds.Name name ∷ kinds.Sign signs.LeftParenthesis ∷ kinds.Word words.Void ∷ kinds.Sign signs.RightParenthesis ∷ kinds.Sign signs.Semicolon ∷ []
 item_kinds (items.Function private result name params body token) =
-    (if private then kinds.Word words.Private ∷ [] else []) ++ result_kind result ∷ kinds.Name name ∷ (parameters_kinds params ++ block_kinds body)
+    (if private then kinds.Word words.Private ∷ [] else []) ++ answer_kind result ∷ kinds.Name name ∷ (parameters_kinds params ++ block_kinds body)
 
 -- declarations in a row
 abbrev pub items_kinds : List Item → List Kind

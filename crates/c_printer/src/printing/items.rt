@@ -3,7 +3,7 @@ ghost use Rattle.std.specs.Prelude.{◌≡◌, ◌++◌, ◌∷◌, [], OnOk, ma
 ghost use Rattle.c_token.specs.declared.Kind.TheVariants as kinds;
 ghost use Rattle.c_token.specs.declared.Word.TheVariants as words;
 ghost use Rattle.c_token.specs.declared.Sign.TheVariants as signs;
-ghost use Rattle.c_printer.specs.PrintedTokens.{items_kinds, item_kinds, storage_kinds, length_kinds, value_kinds, values_kinds, result_kind, parameter_kinds, parameters_kinds, with_commas};
+ghost use Rattle.c_printer.specs.PrintedTokens.{items_kinds, item_kinds, storage_kinds, length_kinds, value_kinds, values_kinds, answer_kind, parameter_kinds, parameters_kinds, with_commas};
 ghost use Rattle.c_printer.specs.PrintedParts.{spaced_token, spaced_tokens, untrusted_kinds};
 
 use crate::printing::Printer;
@@ -181,7 +181,7 @@ impl Printer {
     /// What a function answers.
     fn answer(&mut self, answer: Kind3) -> Result<(), AllocError>
         ensures { OnOk result (self.new.text.items
-            ≡ self.old.text.items ++ spaced_token (result_kind answer)) }
+            ≡ self.old.text.items ++ spaced_token (answer_kind answer)) }
     {
         match answer {
             Kind3::Int => self.word(Word::Int),

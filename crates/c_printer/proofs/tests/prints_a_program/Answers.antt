@@ -1,4 +1,4 @@
-use Rattle.std.proofs.Common.{List, ℕ, subst, sym, ap, refl, ◌∙◌}
+use Rattle.std.proofs.Common.{subst, sym, ap, refl, ◌∙◌}
 use Rattle.std.specs.Prelude.{codes}
 use Rattle.c_grammar.proofs.Worked.{hi_kinds, hi_program, hi}
 use Rattle.c_printer.specs.ProgramPrinting.{IsPrintable}
