@@ -12,7 +12,7 @@ ghost use Rattle.c_evaluator.specs.MachineStates.{bare, seen, flow_of, Does, Doe
 use crate::fault::Fault;
 use crate::flow::{Flow, Turn};
 use crate::machine::Machine;
-use crate::nesting::{OPEN_CALL, OPEN_EXPRESSION, OPEN_STATEMENT, deeper};
+use crate::nesting::{OPEN_CALL, OPEN_FOR, OPEN_OPERATOR, OPEN_PART, deeper};
 use aegis_num::{BinaryOp, UnaryOp};
 use c_semantics::{Expr, Function, Stmt, Variable};
 use sqlite_items::{Boxed, at};
@@ -68,7 +68,7 @@ fn element(
 ) -> Result<u32, Fault>
     ensures does { Does (value bare (callable functions.now) (tree.Indexed at array length (expr_of index.now)) (seen machine.old)) result (seen machine.new) }
 {
-    let inside = deeper(room, OPEN_EXPRESSION)?;
+    let inside = deeper(room, OPEN_PART)?;
     let index = value_of(machine, functions, index, inside)?;
     let index = machine.within(at, length, index)?;
     Ok(machine.read(array.token, index))
@@ -102,7 +102,7 @@ fn unary(
 ) -> Result<u32, Fault>
     ensures does { Does (value bare (callable functions.now) (tree.Unary op (expr_of inner.now)) (seen machine.old)) result (seen machine.new) }
 {
-    let inside = deeper(room, OPEN_EXPRESSION)?;
+    let inside = deeper(room, OPEN_OPERATOR)?;
     let word = value_of(machine, functions, inner, inside)?;
     Ok(op.apply(word))
 }
@@ -120,7 +120,7 @@ fn binary(
 ) -> Result<u32, Fault>
     ensures does { Does (value bare (callable functions.now) (tree.Binary at op (expr_of left.now) (expr_of right.now)) (seen machine.old)) result (seen machine.new) }
 {
-    let inside = deeper(room, OPEN_EXPRESSION)?;
+    let inside = deeper(room, OPEN_OPERATOR)?;
     let first = value_of(machine, functions, left, inside)?;
     let second = value_of(machine, functions, right, inside)?;
     applied(at, op, first, second)
@@ -138,7 +138,7 @@ fn both(
 ) -> Result<u32, Fault>
     ensures does { Does (value bare (callable functions.now) (tree.Both (expr_of left.now) (expr_of right.now)) (seen machine.old)) result (seen machine.new) }
 {
-    let inside = deeper(room, OPEN_EXPRESSION)?;
+    let inside = deeper(room, OPEN_PART)?;
     let word = value_of(machine, functions, left, inside)?;
     if word == 0 {
         return Ok(0);
@@ -159,7 +159,7 @@ fn either(
 ) -> Result<u32, Fault>
     ensures does { Does (value bare (callable functions.now) (tree.Either (expr_of left.now) (expr_of right.now)) (seen machine.old)) result (seen machine.new) }
 {
-    let inside = deeper(room, OPEN_EXPRESSION)?;
+    let inside = deeper(room, OPEN_PART)?;
     let word = value_of(machine, functions, left, inside)?;
     if word != 0 {
         return Ok(1);
@@ -279,7 +279,7 @@ fn block(
 ) -> Result<Flow, Fault>
     ensures does { DoesFlow (meaning bare (callable functions.now) (tree.Block (stmts_of body.now)) (seen machine.old)) result (seen machine.new) }
 {
-    let inside = deeper(room, OPEN_STATEMENT)?;
+    let inside = deeper(room, OPEN_PART)?;
     statements(machine, functions, body, inside)
 }
 
@@ -401,7 +401,7 @@ fn choice(
 ) -> Result<Flow, Fault>
     ensures does { DoesFlow (meaning bare (callable functions.now) (tree.If (expr_of test.now) (stmt_of body.now) (branch_of other.now)) (seen machine.old)) result (seen machine.new) }
 {
-    let inside = deeper(room, OPEN_STATEMENT)?;
+    let inside = deeper(room, OPEN_PART)?;
     let word = value_of(machine, functions, test, inside)?;
     if word == 0 {
         return branch(machine, functions, other, inside);
@@ -423,8 +423,9 @@ fn for_loop(
 ) -> Result<Flow, Fault>
     ensures does { DoesFlow (meaning bare (callable functions.now) (tree.For (branch_of first.now) (part_of (option_copied test.entry)) (branch_of step.now) (stmt_of body.now)) (seen machine.old)) result (seen machine.new) }
 {
-    branch(machine, functions, first, room)?;
-    repeat(machine, functions, test, step, body, room)
+    let inside = deeper(room, OPEN_FOR)?;
+    branch(machine, functions, first, inside)?;
+    repeat(machine, functions, test, step, body, inside)
 }
 
 /// The value of an expression, or zero where none stands.
@@ -471,7 +472,7 @@ fn repeat(
 ) -> Result<Flow, Fault>
     ensures does { DoesFlow (loop (one_turn functions.now (option_copied test.entry) step.now body.now) (seen machine.old)) result (seen machine.new) }
 {
-    let inside = deeper(room, OPEN_STATEMENT)?;
+    let inside = deeper(room, OPEN_PART)?;
     let mut rounds = machine.turns();
     loop {
         match turn(machine, functions, test, step, body, inside)? {
