@@ -4,7 +4,10 @@ pub mod FlatLaws
 pub mod FlatLemmas
 mod IdealExamples
 pub mod IdealLemmas
+pub mod LeftLemmas
 pub mod OwnLemmas
 pub mod ProcessorLemmas
 mod RowExamples
+pub mod SoundnessLemmas
 pub mod StepLaws
+pub mod WholeLemmas

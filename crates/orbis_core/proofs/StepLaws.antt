@@ -2,7 +2,7 @@
 use Rattle.std.proofs.Common.{◌≡◌, ℕ, Option, Some, None, option_map, Result, Ok, ap, ◌∙◌, arith, subst}
 use Rattle.orbis_word.specs.declared.Instr.{Instr}
 use Rattle.orbis_word.specs.Table.{IsInRange, word_of}
-use Rattle.orbis_word.specs.WordLaws.{instruction_in-word_of}
+use Rattle.orbis_word.proofs.WordLaws.{instruction_in-word_of}
 use Rattle.orbis_core.specs.declared.memory.Stop.{Stop}
 use Rattle.orbis_core.specs.declared.stepping.StepEnd.{StepEnd}
 use Rattle.regions.specs.declared.Layout.{Layout}

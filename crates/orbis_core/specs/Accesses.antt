@@ -21,3 +21,11 @@ IsSettled (Err (Log event)) = ⊥
 -- after an access that was done or refused at most one access fewer is left
 abbrev pub LeavesOneFewer : {M T : Type 0} → (M → ℕ → Type 0) → M → Result T Stop → M → Type 0
 LeavesOneFewer has_left old result new = IsSettled result → (n : ℕ) → has_left old (n + 1) → has_left new n
+
+-- so does each of the five calls
+pub record LeaveOneFewer {M : Type 0} (accesses : Accesses M) (has_left : M → ℕ → Type 0) : Type 0 where
+  pub fetch : (old new : M) (at : ℕ) (answer : Result ℕ Stop) → accesses.fetch old at answer new → LeavesOneFewer has_left old answer new
+  pub load_word : (old new : M) (at : ℕ) (answer : Result ℕ Stop) → accesses.load_word old at answer new → LeavesOneFewer has_left old answer new
+  pub load_byte : (old new : M) (at : ℕ) (answer : Result ℕ Stop) → accesses.load_byte old at answer new → LeavesOneFewer has_left old answer new
+  pub store_word : (old new : M) (at word : ℕ) (answer : Result (Unit {0}) Stop) → accesses.store_word old at word answer new → LeavesOneFewer has_left old answer new
+  pub store_byte : (old new : M) (at byte : ℕ) (answer : Result (Unit {0}) Stop) → accesses.store_byte old at byte answer new → LeavesOneFewer has_left old answer new

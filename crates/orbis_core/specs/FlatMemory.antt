@@ -1,5 +1,6 @@
 -- Promise: a memory of plain words with the classes of a layout.
-use Rattle.std.specs.Prelude.{◌≡◌, ℕ, ◌+◌, ◌-◌, ◌*◌, ◌/◌, nat_lt, if◌then◌else◌, List, ◌++◌, replicate, slice_index, slice_set, Result}
+use Rattle.std.proofs.Common.{arith}
+use Rattle.std.specs.Prelude.{◌≡◌, ◌≤◌, ℕ, ◌+◌, ◌-◌, ◌*◌, ◌/◌, nat_lt, if◌then◌else◌, List, ◌++◌, replicate, slice_index, slice_set, Result}
 use Rattle.regions.specs.declared.Layout.{Layout}
 use Rattle.regions.specs.declared.Mode.{Mode}
 use Rattle.regions.specs.declared.Mode.TheVariants.{Ptr}
@@ -8,7 +9,7 @@ use Rattle.regions.specs.declared.Access.TheVariants.{Read, Write, Fetch}
 use Rattle.regions.specs.declared.addresses.TheConstants.{LOG_START, OPEN_END, TREE_START}
 use Rattle.regions.specs.Blocks.{data_blocks}
 use Rattle.orbis_core.specs.declared.memory.Stop.{Stop}
-use Rattle.orbis_core.specs.Accesses.{Accesses}
+use Rattle.orbis_core.specs.Accesses.{Accesses, LeaveOneFewer}
 use Rattle.orbis_core.specs.Refusals.{word_refusal, byte_refusal, answered, unless_refused}
 use Rattle.orbis_core.specs.ByteOrder.{words_in, byte_in, with_byte}
 
@@ -84,3 +85,13 @@ flat_accesses_in mode = record {
 -- and what they do in the rights of the private tamper-resistant mode
 abbrev pub flat_accesses : Accesses Flat
 flat_accesses = flat_accesses_in Ptr
+
+-- two accesses are left after each call
+pub flat_leaves : LeaveOneFewer flat_accesses (λ memory n. n ≤ 2)
+flat_leaves = record {
+  fetch = λ old new at answer does settled n left. omega (arith, left);
+  load_word = λ old new at answer does settled n left. omega (arith, left);
+  load_byte = λ old new at answer does settled n left. omega (arith, left);
+  store_word = λ old new at word answer does settled n left. omega (arith, left);
+  store_byte = λ old new at byte answer does settled n left. omega (arith, left);
+}

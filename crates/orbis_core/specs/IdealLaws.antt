@@ -1,7 +1,8 @@
 -- Promise: what holds of each step and of each run of the ideal machine.
-use Rattle.std.specs.Prelude.{◌≡◌, ℕ, ◌+◌, IsTrue, Bool, Some, None}
+use Rattle.std.specs.Prelude.{◌≡◌, ℕ, ◌+◌, ◌*◌, ◌^◌, ◌<◌, IsTrue, Bool, List, length, Some, None, IfSome}
+use Rattle.std.specs.List.{AllByRecursion}
 use Rattle.execution.specs.Run.{Stops, and_then, run, state_of}
-use Rattle.execution.specs.Traffic.{Extends}
+use Rattle.execution.specs.Traffic.{Entry, Traffic, Extends}
 use Rattle.orbis_word.specs.declared.Instr.{Instr}
 use Rattle.regions.specs.declared.Layout.{Layout}
 use Rattle.regions.specs.declared.Class.{Class}
@@ -11,7 +12,8 @@ use Rattle.regions.specs.Addresses.{class_at}
 use Rattle.regions.specs.Modes.{is_secure}
 use Rattle.orbis_core.specs.ByteOrder.{word_start}
 use Rattle.orbis_core.specs.Effects.{effect_of}
-use Rattle.orbis_core.specs.Ideal.{Ideal, IdealEnd, Outside, carried, ideal_step, instruction_at, machine_step}
+use Rattle.orbis_core.specs.Ideal.{Ideal, IdealEnd, Outside, carried, ideal_run, ideal_step, instruction_at, machine_step}
+use Rattle.orbis_core.specs.Processor.{register}
 use Rattle.orbis_core.specs.Refusals.{word_refusal}
 
 -- ---- runs
@@ -59,3 +61,28 @@ ModeStaysSecure = (layout : Layout) (outside : Outside) (state : Ideal) → IsTr
 -- an address has the class of the word that it lies in
 abbrev pub ClassIsOfWord : Type 0
 ClassIsOfWord = (layout : Layout) (at : ℕ) → class_at layout (word_start at) ≡ class_at layout at
+
+-- ---- states
+
+-- there are 32 registers, of which register 0 is zero, and the registers, the program counter and the words are below 2 ^ 32
+pub record IsWhole (state : Ideal) : Type 0 where
+  pub registers : length state.core.registers ≡ 32
+  pub zero : register state.core 0 ≡ 0
+  pub small : (n : ℕ) → register state.core n < 2 ^ 32
+  pub pc : state.core.pc < 2 ^ 32
+  pub words : (at : ℕ) → state.memory at < 2 ^ 32
+
+-- what comes from outside is a word
+pub record GivesWords (outside : Outside) : Type 0 where
+  pub word : (at : ℕ) (traffic : Traffic ℕ) → IfSome (outside.word at traffic) (λ word. word < 2 ^ 32)
+  pub byte : (at : ℕ) (traffic : Traffic ℕ) → IfSome (outside.byte at traffic) (λ byte. byte < 2 ^ 32)
+
+-- each step keeps that
+abbrev pub StepsKeepWhole : Type 0
+StepsKeepWhole = (layout : Layout) (outside : Outside) (state : Ideal) → GivesWords outside → IsWhole state → IsWhole (state_of (machine_step layout outside state))
+
+-- so that each state of a run on bytes is so
+abbrev pub StatesAreWhole : Type 0
+StatesAreWhole =
+    (layout : Layout) (loose : Class → Bool) (statics : List ℕ) (entry : ℕ) (input : List ℕ) (words : List (Entry ℕ)) (steps : ℕ) →
+    AllByRecursion (λ byte. byte < 2 ^ 8) statics → entry < 16 * layout.code → IsWhole (state_of (ideal_run layout loose statics entry input words steps))

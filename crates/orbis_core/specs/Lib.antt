@@ -1,6 +1,7 @@
 pub mod Accesses
 pub mod ByteOrder
 pub mod Carrying
+pub mod Counting
 pub mod Effects
 pub mod FlatIsIdeal
 pub mod FlatMemory
@@ -11,3 +12,4 @@ pub mod Processor
 pub mod Refusals
 pub mod Rows
 pub mod Secure
+pub mod Soundness

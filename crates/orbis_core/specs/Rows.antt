@@ -111,3 +111,8 @@ IsSettledEnd end = Unit {0}
 -- after a step in which no check of the memory failed at most so many accesses fewer are left
 abbrev pub LeavesFewer : {M : Type 0} → ℕ → (M → ℕ → Type 0) → M → StepEnd → M → Type 0
 LeavesFewer fewer has_left old end new = IsSettledEnd end → (n : ℕ) → has_left old (n + fewer) → has_left new n
+
+-- a step uses two accesses
+abbrev pub StepsLeaveFewer : {M : Type 0} → Accesses M → (M → ℕ → Type 0) → Type 0
+StepsLeaveFewer {M} accesses has_left =
+    (old new : Machine M) (end : StepEnd) → Steps accesses old end new → LeavesFewer 2 has_left old.memory end new.memory

@@ -115,7 +115,7 @@ fn push_words(words: &mut Vec<u32>, bytes: &[u8]) -> Result<(), OutOfMemory>
 
 impl Memory for FlatMemory {
     ghost use Rattle.std.specs.Prelude.{◌≤◌};
-    ghost use Rattle.orbis_core.specs.FlatMemory.{flat_accesses};
+    ghost use Rattle.orbis_core.specs.FlatMemory.{flat_accesses, flat_leaves};
     ghost use Rattle.std.proofs.Common.{rules};
 
     ghost has_left = { λ _ n. n ≤ 2 };
@@ -151,6 +151,8 @@ impl Memory for FlatMemory {
         self.words[index] = u32::from_be_bytes(bytes);
         Ok(())
     }
+
+    ghost one_fewer_left = { flat_leaves };
 
     ghost fewer_left = { λ memory n left. Prim.search rules };
 }

@@ -1,8 +1,12 @@
 //! Laws of steps and of the ideal machine.
 ghost use Rattle.orbis_core.specs.Carrying.{StepsCarry};
 ghost use Rattle.orbis_core.specs.FlatIsIdeal.{FlatStartIsIdeal, FlatStepIsIdeal};
-ghost use Rattle.orbis_core.specs.IdealLaws.{ClassIsOfWord, CodeIsFetched, CodeStays, IdealEndsStay, IdealRunsExtend, IdealRunsJoin, ModeStaysSecure, StepIsCarried};
+ghost use Rattle.orbis_core.specs.IdealLaws.{ClassIsOfWord, CodeIsFetched, CodeStays, IdealEndsStay, IdealRunsExtend, IdealRunsJoin, ModeStaysSecure, StatesAreWhole, StepIsCarried, StepsKeepWhole};
 ghost use Rattle.orbis_core.specs.OwnMemory.{OwnStepIsIdeal};
+ghost use Rattle.orbis_core.specs.Rows.{StepsLeaveFewer};
+ghost use Rattle.orbis_core.specs.Soundness.{LoggedAddressIsUnsound, OpenLoadIsUnsound, OpenStoreIsUnsound, ReleaseIsSound};
+
+use crate::memory::Memory;
 
 /// A way from one memory to another: a relation that each call carries over.
 pub trait Carries {
@@ -29,6 +33,11 @@ pub trait Carries {
 /// A step over the one memory is a step over the other.
 pub fn steps_carry<C: Carries>()
     ensures carried { StepsCarry C.calls C.other_calls C.related_to }
+{}
+
+/// A step uses at most two accesses, whatever memory it is made over.
+pub fn steps_leave_fewer<M: Memory>()
+    ensures left { StepsLeaveFewer M.accesses M.has_left }
 {}
 
 /// The memory of the ideal machine is a memory that steps are made over.
@@ -70,4 +79,24 @@ pub fn ideal_runs()
 
     // More steps only add to what has gone out, and take from the front of what is to come in.
     ensures extended { IdealRunsExtend }
+{}
+
+/// Sound images, on worked ones.
+pub fn sound_images()
+    // To release a byte and to exit is sound.
+    ensures sound { ReleaseIsSound }
+
+    // To use a logged word as an address is not, nor is a byte loaded from a shared address or stored there.
+    ensures address { LoggedAddressIsUnsound }
+    ensures load { OpenLoadIsUnsound }
+    ensures store { OpenStoreIsUnsound }
+{}
+
+/// States of the ideal machine: 32 registers, of which register 0 is zero; all that they hold is below 2 to the 32nd.
+pub fn ideal_states()
+    // Each step keeps that where what comes from outside is words.
+    ensures kept { StepsKeepWhole }
+
+    // Each state of a run on bytes is so.
+    ensures whole { StatesAreWhole }
 {}

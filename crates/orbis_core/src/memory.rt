@@ -1,6 +1,6 @@
 //! The memory that a core runs on.
 ghost use Rattle.std.specs.Prelude.{ℕ, ◌+◌};
-ghost use Rattle.orbis_core.specs.Accesses.{Accesses, LeavesOneFewer};
+ghost use Rattle.orbis_core.specs.Accesses.{Accesses, LeaveOneFewer};
 
 /// Why an access or an instruction is refused.
 #[derive(Clone, Copy, Debug, PartialEq, Eq)]
@@ -45,32 +45,30 @@ pub trait Memory {
     /// Reads the instruction word at an address.
     fn fetch(&mut self, at: u32) -> Result<u32, Stop>
         requires { has_left self.old 1 }
-        ensures does { accesses.fetch self.old at result self.new }
-        ensures left { LeavesOneFewer has_left self.old result self.new };
+        ensures does { accesses.fetch self.old at result self.new };
 
     /// Reads the word at an address.
     fn load_word(&mut self, at: u32) -> Result<u32, Stop>
         requires { has_left self.old 1 }
-        ensures does { accesses.load_word self.old at result self.new }
-        ensures left { LeavesOneFewer has_left self.old result self.new };
+        ensures does { accesses.load_word self.old at result self.new };
 
     /// Reads the byte at an address, with zeros above it.
     fn load_byte(&mut self, at: u32) -> Result<u32, Stop>
         requires { has_left self.old 1 }
-        ensures does { accesses.load_byte self.old at result self.new }
-        ensures left { LeavesOneFewer has_left self.old result self.new };
+        ensures does { accesses.load_byte self.old at result self.new };
 
     /// Writes the word at an address.
     fn store_word(&mut self, at: u32, word: u32) -> Result<(), Stop>
         requires { has_left self.old 1 }
-        ensures does { accesses.store_word self.old at word result self.new }
-        ensures left { LeavesOneFewer has_left self.old result self.new };
+        ensures does { accesses.store_word self.old at word result self.new };
 
     /// Writes the byte at an address.
     fn store_byte(&mut self, at: u32, byte: u8) -> Result<(), Stop>
         requires { has_left self.old 1 }
-        ensures does { accesses.store_byte self.old at byte result self.new }
-        ensures left { LeavesOneFewer has_left self.old result self.new };
+        ensures does { accesses.store_byte self.old at byte result self.new };
+
+    /// After a call that was done or refused at most one access fewer is left.
+    ghost one_fewer_left: { LeaveOneFewer accesses has_left };
 
     /// Where so many accesses are left, one fewer are.
     ghost fewer_left: { (memory : Self) (n : ℕ) → has_left memory (n + 1) → has_left memory n };

@@ -1,6 +1,6 @@
 //! Each row of the instruction table on operands at the edges, and what stops a step.
 
-use crate::{Core, FlatMemory, Port, StepEnd, Stop, Why, step};
+use crate::{Core, FlatMemory, Memory, Port, StepEnd, Stop, Why, step};
 use aegis_num::OutOfMemory;
 use regions::{Layout, OPEN_END, TREE_START};
 use std::alloc::Global;
@@ -239,5 +239,75 @@ fn drops_writes_of_register_0(rt: HostRuntime) -> Result<(), Fail> {
     let mut port = NO_PORT;
     assert_eq!(rt; step(&mut core, &mut mem, &mut port), StepEnd::Next);
     assert_eq!(rt; core.register(0), 0);
+    Ok(())
+}
+
+/// A flat memory for so many accesses.
+#[derive(Debug, Drop)]
+struct Counted {
+    memory: FlatMemory,
+    left: u64,
+}
+
+impl Memory for Counted {
+    ghost use Rattle.std.specs.Prelude.{◌≤◌};
+    ghost use Rattle.orbis_core.specs.Counting.{counting, counting_leaves};
+    ghost use Rattle.std.proofs.Common.{rules};
+
+    ghost has_left = { λ m n. n ≤ m.left };
+
+    ghost accesses = { counting (λ m. m.left) };
+
+    fn fetch(&mut self, at: u32) -> Result<u32, Stop> {
+        self.left -= 1;
+        self.memory.fetch(at)
+    }
+
+    fn load_word(&mut self, at: u32) -> Result<u32, Stop> {
+        self.left -= 1;
+        self.memory.load_word(at)
+    }
+
+    fn load_byte(&mut self, at: u32) -> Result<u32, Stop> {
+        self.left -= 1;
+        self.memory.load_byte(at)
+    }
+
+    fn store_word(&mut self, at: u32, word: u32) -> Result<(), Stop> {
+        self.left -= 1;
+        self.memory.store_word(at, word)
+    }
+
+    fn store_byte(&mut self, at: u32, byte: u8) -> Result<(), Stop> {
+        self.left -= 1;
+        self.memory.store_byte(at, byte)
+    }
+
+    ghost one_fewer_left = { counting_leaves (λ m. m.left) };
+
+    ghost fewer_left = { λ memory n left. Prim.search rules };
+}
+
+/// Two steps over any memory that has four accesses left.
+fn two_steps<M: Memory>(core: &mut Core, mem: &mut M) -> StepEnd
+    requires { M.has_left mem.old 4 }
+{
+    let mut port = NO_PORT;
+    match step(core, mem, &mut port) {
+        StepEnd::Next => step(core, mem, &mut port),
+        end => end,
+    }
+}
+
+#[test]
+fn counts_accesses(rt: HostRuntime) -> Result<(), Fail> {
+    // A word is loaded, and a jump goes to itself: three accesses.
+    let memory = memory_of(rt.alloc(), [0x8464_0000, 0, 0, 0])?;
+    let mut counted = Counted { memory, left: 7 };
+    let mut core = Core::new(CODE);
+    core.set_register(4, TREE_START);
+    assert!(rt; counted.left >= 4);
+    assert_eq!(rt; two_steps(&mut core, &mut counted), StepEnd::Next);
+    assert_eq!(rt; counted.left, 4);
     Ok(())
 }

@@ -3,4 +3,3 @@ pub mod Decoding
 pub mod Fields
 pub mod Printing
 pub mod Table
-pub mod WordLaws

@@ -1,4 +1,4 @@
-use Rattle.orbis_word.specs.WordLaws.{no_row}
+use Rattle.orbis_word.proofs.WordLaws.{no_row}
 use Rattle.orbis_word.proofs.decoding.decode.Goals as goal
 
 pub returns-in-Some-clause-none : goal.returns-in-Some-clause-none

@@ -1,4 +1,4 @@
-use Rattle.orbis_word.specs.WordLaws.{instruction_in-word_of}
+use Rattle.orbis_word.proofs.WordLaws.{instruction_in-word_of}
 use Rattle.orbis_word.proofs.table.encode.Goals as goal
 
 pub returns-clause-decoded : goal.returns-clause-decoded
