@@ -4,7 +4,7 @@ use Rattle.execution.specs.Traffic.{Element, Entry, Extends}
 use Rattle.regions.specs.declared.rights.Class.{Class}
 use Rattle.c_semantics.specs.ResolvedTree.{Stmt, Function, Program}
 use Rattle.c_semantics.specs.States.{Setting, State, Turns, EndsAs, last_state}
-use Rattle.c_semantics.specs.Meaning.{Meaning, meaning, calls_of, outcome_of, mean, noting_all}
+use Rattle.c_semantics.specs.Meaning.{Meaning, meaning, calls_of, outcome_of, mean, mean_alone, mean_shared, mean_unchecked, noting_all}
 
 -- more turns change nothing once the run ended
 abbrev pub MoreTurns : Type 0
@@ -19,6 +19,21 @@ FewerTurns = (setting : Setting) (program : Program) (input : List ℕ) (loose :
 abbrev pub FewerTurnsLessWork : Type 0
 FewerTurnsLessWork = (setting : Setting) (program : Program) (input : List ℕ) (loose : List (Entry Element)) (turns more : ℕ) →
     (mean setting program input loose turns).work ≤ (mean setting program input loose (turns + more)).work
+
+-- of the three meanings by name: more turns change nothing once the run ended, and fewer give a prefix
+pub record TurnsOfEach : Type 0 where
+  pub alone : (program : Program) (input : List ℕ) (turns more : ℕ) →
+      (mean_alone program input turns).end ≢ Turns → mean_alone program input (turns + more) ≡ mean_alone program input turns
+  pub alone_prefix : (program : Program) (input : List ℕ) (turns more : ℕ) →
+      Extends (mean_alone program input turns).traffic (mean_alone program input (turns + more)).traffic
+  pub shared : (program : Program) (input : List ℕ) (loose : List (Entry Element)) (turns more : ℕ) →
+      (mean_shared program input loose turns).end ≢ Turns → mean_shared program input loose (turns + more) ≡ mean_shared program input loose turns
+  pub shared_prefix : (program : Program) (input : List ℕ) (loose : List (Entry Element)) (turns more : ℕ) →
+      Extends (mean_shared program input loose turns).traffic (mean_shared program input loose (turns + more)).traffic
+  pub unchecked : (program : Program) (input : List ℕ) (loose : List (Entry Element)) (turns more : ℕ) →
+      (mean_unchecked program input loose turns).end ≢ Turns → mean_unchecked program input loose (turns + more) ≡ mean_unchecked program input loose turns
+  pub unchecked_prefix : (program : Program) (input : List ℕ) (loose : List (Entry Element)) (turns more : ℕ) →
+      Extends (mean_unchecked program input loose turns).traffic (mean_unchecked program input loose (turns + more)).traffic
 
 -- a run ends for want of turns only when all have begun
 abbrev pub TurnsAreUsed : Type 0

@@ -7,6 +7,7 @@ ghost use Rattle.c_semantics.specs.MeaningLaws.{
   OnlyAdds,
   ReadsNoEntry,
   TurnsAreUsed,
+  TurnsOfEach,
 };
 
 /// Where a run ends with so many loop turns, more of them change nothing.
@@ -19,6 +20,11 @@ pub fn more_turns_change_nothing()
 pub fn fewer_turns_give_a_prefix()
     ensures prefix { FewerTurns }
     ensures work { FewerTurnsLessWork }
+{}
+
+/// Both hold of the meanings where nothing is loose, where shared words are, and where shared and logged words are.
+pub fn turns_of_each_meaning()
+    ensures each { TurnsOfEach }
 {}
 
 /// A run ends for want of turns only where no turn is left.
