@@ -5,6 +5,7 @@ pub mod FlatLemmas
 mod IdealExamples
 pub mod IdealLemmas
 pub mod LeftLemmas
+pub mod LooseningLemmas
 pub mod OwnLemmas
 pub mod ProcessorLemmas
 mod RowExamples

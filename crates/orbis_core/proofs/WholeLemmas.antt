@@ -290,7 +290,7 @@ steps-whole layout outside state gives whole =
 
 -- ---- runs
 
-entries-give : (loose : Class → Bool) → GivesWords (from_entries loose)
+pub entries-give : (loose : Class → Bool) → GivesWords (from_entries loose)
 entries-give loose = record {
   word = λ at traffic. words at traffic.loose;
   byte = λ at traffic. bytes (loose_word nat_eq at traffic);

@@ -7,6 +7,7 @@ pub mod FlatIsIdeal
 pub mod FlatMemory
 pub mod Ideal
 pub mod IdealLaws
+pub mod Loosening
 pub mod OwnMemory
 pub mod Processor
 pub mod Refusals

@@ -2,6 +2,7 @@
 ghost use Rattle.orbis_core.specs.Carrying.{StepsCarry};
 ghost use Rattle.orbis_core.specs.FlatIsIdeal.{FlatStartIsIdeal, FlatStepIsIdeal};
 ghost use Rattle.orbis_core.specs.IdealLaws.{ClassIsOfWord, CodeIsFetched, CodeStays, IdealEndsStay, IdealRunsExtend, IdealRunsJoin, ModeStaysSecure, StatesAreWhole, StepIsCarried, StepsKeepWhole};
+ghost use Rattle.orbis_core.specs.Loosening.{RunsLoosen};
 ghost use Rattle.orbis_core.specs.OwnMemory.{OwnStepIsIdeal};
 ghost use Rattle.orbis_core.specs.Rows.{StepsLeaveFewer};
 ghost use Rattle.orbis_core.specs.Soundness.{LoggedAddressIsUnsound, OpenLoadIsUnsound, OpenStoreIsUnsound, ReleaseIsSound};
@@ -99,4 +100,10 @@ pub fn ideal_states()
 
     // Each state of a run on bytes is so.
     ensures whole { StatesAreWhole }
+{}
+
+/// Runs with fewer and with more loose classes.
+pub fn runs_loosen()
+    // A run with fewer is a run with more, for the list of words that it read there.
+    ensures loosened { RunsLoosen }
 {}

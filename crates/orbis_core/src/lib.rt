@@ -14,7 +14,7 @@ pub use effect::Effect;
 pub use flat_memory::FlatMemory;
 pub use laws::{
     Carries, flat_is_ideal, ideal_runs, ideal_states, ideal_steps, own_memory_is_ideal,
-    sound_images, steps_carry, steps_leave_fewer,
+    runs_loosen, sound_images, steps_carry, steps_leave_fewer,
 };
 pub use memory::{Memory, Stop, Why};
 pub use port::Port;
