@@ -166,7 +166,7 @@ loaded-holds : (layout : Layout) (statics : List ℕ) → length statics ≡ BLO
     → (length (bytes_loaded layout statics) ≡ size_of layout)
     × ((n : ℕ) → n < static_blocks layout → bytes_at (start_of_place layout (static_place layout n)) STORED_BLOCK_BYTES (bytes_loaded layout statics) ≡ stored (static_block statics n))
 loaded-holds layout statics long =
-    let zeros = replicate (size_of layout) 0 in
+    let zeros : List ℕ = replicate (size_of layout) 0 in
     let placed = with_statics-holds layout statics zeros long (length-replicate (size_of layout) 0) (static_blocks layout) (omega arith) in
     let whole = with_statics layout statics (static_blocks layout) zeros in (
       ap (λ (xs : List ℕ). length xs) (loaded-zeros layout statics)
