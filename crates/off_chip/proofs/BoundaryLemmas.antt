@@ -1,5 +1,5 @@
 -- What follows of boundaries, and that they are the same of a trace in order.
-use Rattle.std.proofs.Common.{sym, ◌≡◌, ℕ, ◌≤◌, true, eqb, leb, List, [], ◌∷◌, ◌++◌, length, refl, ap, ◌∙◌, subst, inl, inr, arith}
+use Rattle.std.proofs.Common.{◌≡◌, ℕ, ◌≤◌, true, eqb, leb, List, [], ◌∷◌, ◌++◌, length, refl, ap, ◌∙◌, subst, inl, inr, arith}
 use Rattle.std.specs.Prelude.{IsTrue}
 use Rattle.std.specs.Bool.{Decides}
 use Rattle.std.proofs.lemmas.Bool.{or_cases, or_left, or_right, and_parts, and_from, eqb-true, eq-eqb, leb-true, le-leb}
@@ -9,7 +9,7 @@ use Rattle.off_chip.specs.declared.event.Mark.TheVariants.{Retire}
 use Rattle.off_chip.specs.declared.event.Who.TheVariants.{Secure}
 use Rattle.off_chip.specs.Histories.{History, no_event, ◌◂◌, in_order, history}
 use Rattle.off_chip.specs.Boundaries.{is_retire, IsBoundary, start, entered, retirement, IsStep, is_boundary, is_step}
-use Rattle.off_chip.proofs.HistoryLemmas.{history-push, history-in_order, in_order-history}
+use Rattle.off_chip.proofs.HistoryLemmas.{history-push, in_order-history}
 
 pub is_retire-event : (event : Event) → is_retire event ≡ true → event ≡ Note (Retire Secure)
 is_retire-event (Note (Retire Secure)) retires = refl

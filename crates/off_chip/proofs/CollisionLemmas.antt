@@ -1,5 +1,5 @@
 -- What follows of collisions, and of lists that are the same multiset.
-use Rattle.std.proofs.Common.{◌≡◌, ◌≢◌, ℕ, suc, ◌+◌, ◌≤◌, ◌%◌, Bool, true, false, cond, eqb, ◌&&◌, List, [], ◌∷◌, ◌++◌, length, Option, Some, None, refl, sym, ap, ◌∙◌, subst, inl, inr, ◌⊎◌, arith, length-append}
+use Rattle.std.proofs.Common.{◌≡◌, ◌≢◌, ℕ, ◌+◌, ◌≤◌, ◌%◌, Bool, true, cond, eqb, ◌&&◌, List, [], ◌∷◌, ◌++◌, length, Some, refl, sym, ap, ◌∙◌, inl, inr, arith, length-append}
 use Rattle.std.specs.Prelude.{◌^◌, sum_by, count_by, slice_get}
 use Rattle.std.specs.Bool.{Decides}
 use Rattle.std.specs.Str.{bytes_eq}
@@ -8,7 +8,7 @@ use Rattle.std.proofs.lemmas.List.Sums.{sum_by-cons, sum_by-append}
 use Rattle.std.proofs.lemmas.Slice.Eq.{bytes_eq-Decides}
 use Rattle.off_chip.specs.declared.event.Event.{Event}
 use Rattle.off_chip.specs.Epochs.{LogEntry}
-use Rattle.off_chip.specs.Collisions.{Strings, string_moved, BlockCollision, same_entry, SameEntries, EntrySum, sum_of}
+use Rattle.off_chip.specs.Collisions.{Strings, string_moved, BlockCollision, same_entry, SameEntries, sum_of}
 
 pub collision-two : (strings : Strings) (trace : List Event) (first second : ℕ) → BlockCollision strings trace first second → first ≢ second
 collision-two strings trace first second collision same =

@@ -11,7 +11,7 @@ use Rattle.off_chip.specs.Histories.{History, no_event, ◌◂◌, first_told, h
 use Rattle.off_chip.specs.WriteBacks.{same_place, written_at, read_at}
 use Rattle.off_chip.specs.ExpectedDigests.{Digests, digest_told, expected_digest, IsExpectedDigest, of_root, of_write, of_parent}
 use Rattle.off_chip.proofs.HistoryLemmas.{filter_map-nil, nil-filter_map, ToldAt, newest-ToldAt, ToldAt-newest}
-use Rattle.off_chip.proofs.WriteLemmas.{same_place-Decides, same_place-refl, written_at-event}
+use Rattle.off_chip.proofs.WriteLemmas.{same_place-Decides, same_place-refl}
 
 -- ---- what one event tells
 

@@ -1,23 +1,22 @@
 -- What follows of the epochs of the log.
-use Rattle.std.proofs.Common.{arith, ◌≤◌, ◌≡◌, ℕ, Bool, true, false, cond, ◌||◌, List, [], ◌∷◌, ◌++◌, Option, Some, None, refl, sym, ap, ◌∙◌, subst, inl, inr}
-use Rattle.std.specs.Prelude.{IsTrue, ◌↔◌, filter_map}
+use Rattle.std.proofs.Common.{◌≤◌, ◌≡◌, ℕ, Bool, true, false, cond, ◌||◌, List, [], ◌∷◌, ◌++◌, Option, refl, sym, ap, ◌∙◌, subst, inl, inr}
+use Rattle.std.specs.Prelude.{IsTrue, ◌↔◌}
 use Rattle.std.specs.Bool.{OnTrue}
 use Rattle.std.specs.List.{list_any}
-use Rattle.std.proofs.lemmas.Bool.{OnTrue_at, or_parts, or_right, both_ways, cases_Bool}
+use Rattle.std.proofs.lemmas.Bool.{or_right, both_ways, cases_Bool}
 use Rattle.std.proofs.lemmas.List.{append_assoc}
 use Rattle.std.proofs.lemmas.List.Folds.{list_any-append}
-use Rattle.aegis_num.specs.declared.storage.Block.{Block}
 use Rattle.aegis_num.specs.declared.storage.Place.{Place}
 use Rattle.aegis_num.specs.declared.storage.Place.TheVariants.{Log}
 use Rattle.off_chip.specs.declared.event.Event.{Event}
 use Rattle.off_chip.specs.declared.event.Event.TheVariants.{BlockRead, Note}
 use Rattle.off_chip.specs.declared.event.Mark.TheVariants.{Sent, CheckPassed}
-use Rattle.off_chip.specs.Histories.{History, no_event, ◌◂◌, history, in_order, Each, EachSince, since, until}
+use Rattle.off_chip.specs.Histories.{History, history, in_order, since, until}
 use Rattle.off_chip.specs.WriteBacks.{block_writes}
-use Rattle.off_chip.specs.FaithfulReads.{is_faithful, is_log_read, IsFaithfulRead, LogFaithful, LogReadsFaithful}
+use Rattle.off_chip.specs.FaithfulReads.{is_faithful, is_log_read, LogFaithful, LogReadsFaithful}
 use Rattle.off_chip.specs.Epochs.{is_passed, is_check_start, epochs, check_of, reads_of, writes_of, open_epoch, ended_epoch, open_reads, open_writes, IsQuiet, EpochFaithful, EndedFaithful, OpenReadsFaithful, EndedReadsFaithful, ReadNotAbove, NoReadAbove, ReadsNotAbove, SentInQuiet, AllSentInQuiet, SentAfterQuiet}
 use Rattle.off_chip.proofs.HistoryLemmas.{in_order-history, history-in_order, Each-cut, cut-Each, EachSince-cut, cut-EachSince}
-use Rattle.off_chip.proofs.SplitLemmas.{split-some, split-append, split-open, since-none, LatestAt, since-until, last-part, nil-push, push-same}
+use Rattle.off_chip.proofs.SplitLemmas.{split-some, split-append, split-open, since-none, since-until, last-part, nil-push, push-same}
 use Rattle.off_chip.proofs.FaithfulLemmas.{is_faithful-Decides, LogFaithful-in_order}
 
 abbrev Image : Type 0

@@ -1,10 +1,10 @@
 -- What follows of faithful reads and of the faithful part.
 use Rattle.std.proofs.Common.{◌≡◌, ℕ, suc, ◌≤◌, Bool, true, false, cond, eqb, List, [], ◌∷◌, ◌++◌, length, Option, Some, None, refl, sym, ap, ◌∙◌, subst, inl, inr, ◌⊎◌, arith}
-use Rattle.std.specs.Prelude.{IsTrue, ◌↔◌, filter_map}
+use Rattle.std.specs.Prelude.{IsTrue, ◌↔◌}
 use Rattle.std.specs.Bool.{Decides, OnTrue}
 use Rattle.std.specs.Str.{bytes_eq}
 use Rattle.std.proofs.lemmas.Bool.{eqb-true, eq-eqb, cases_Bool, and_parts, and_from, both_ways}
-use Rattle.std.proofs.lemmas.List.{append-nil, append_assoc}
+use Rattle.std.proofs.lemmas.List.{append_assoc}
 use Rattle.std.proofs.lemmas.Slice.Eq.{bytes_eq-Decides}
 use Rattle.aegis_num.specs.declared.storage.Block.{Block}
 use Rattle.aegis_num.specs.declared.storage.Place.{Place}
@@ -12,7 +12,7 @@ use Rattle.aegis_num.specs.declared.storage.Place.TheVariants.{Tree, Log}
 use Rattle.off_chip.specs.declared.event.Event.{Event}
 use Rattle.off_chip.specs.declared.event.Event.TheVariants.{BlockRead}
 use Rattle.off_chip.specs.Histories.{History, no_event, ◌◂◌, followed, history, Each}
-use Rattle.off_chip.specs.WriteBacks.{written_at, last_write}
+use Rattle.off_chip.specs.WriteBacks.{last_write}
 use Rattle.off_chip.specs.FaithfulReads.{is_payload, same_block, is_expected, is_faithful, AllFaithful, is_tree_read, TreeFaithful, is_log_read, LogFaithful, IsFaithfulRead, as_written, as_loaded, AllReadsFaithful, TreeReadsFaithful, LogReadsFaithful, SomeReadUnfaithful, faithful_from, faithful_part, IsFaithfulPart}
 use Rattle.off_chip.proofs.HistoryLemmas.{followed-append, Each-older, Each-cut, cut-Each}
 use Rattle.off_chip.proofs.WriteLemmas.{last_write-in_order, last_write-never}

@@ -1,6 +1,6 @@
 -- What a plain memory holds at each place.
-use Rattle.std.proofs.Common.{◌≡◌, ℕ, zero, suc, ◌+◌, ◌*◌, ◌<◌, ◌≤◌, ◌-◌, Bool, true, false, cond, List, [], ◌∷◌, ◌++◌, length, take, drop, replicate, Option, Some, None, refl, sym, ap, ◌∙◌, subst, inl, inr, ◌⊎◌, arith, length-append, length-drop, lit<, lit≤, add-one}
-use Rattle.std.specs.Prelude.{◌≢◌, ◌^◌, filter_map, IfSome}
+use Rattle.std.proofs.Common.{◌≡◌, ℕ, zero, suc, ◌+◌, ◌*◌, ◌<◌, ◌≤◌, Bool, cond, List, [], ◌∷◌, ◌++◌, length, take, drop, replicate, Option, Some, None, refl, sym, ap, ◌∙◌, subst, inl, inr, ◌⊎◌, arith, length-append, length-drop, lit<, lit≤, add-one}
+use Rattle.std.specs.Prelude.{◌≢◌, filter_map, IfSome}
 use Rattle.std.specs.Int.{w32, w64, to_be_bytes, from_be_bytes}
 use Rattle.std.proofs.lemmas.Nat.{from_be_bytes-to_be_bytes_8}
 use Rattle.std.proofs.lemmas.Bool.{cases_Bool, both_ways}
@@ -17,16 +17,16 @@ use Rattle.off_chip.specs.declared.event.Event.{Event}
 use Rattle.off_chip.specs.declared.event.Event.TheVariants.{BlockRead, BlockWrite, WordRead, WordWrite, Note}
 use Rattle.off_chip.specs.declared.loading.TheConstants.{RESUME_WORD}
 use Rattle.off_chip.specs.Histories.{History, no_event, ◌◂◌, in_order, history, first_told}
-use Rattle.off_chip.specs.OffChipBytes.{HasPlace, IsWordAddress, bytes_at, bytes_loaded, bytes_put, size_of, start_of_place, static_block, static_blocks, static_place, stored, with_statics}
+use Rattle.off_chip.specs.OffChipBytes.{HasPlace, bytes_at, bytes_loaded, bytes_put, size_of, start_of_place, static_block, static_blocks, static_place, stored, with_statics}
 use Rattle.off_chip.specs.AnsweredReads.{Holds, after_event, after_events, IsAnswered}
-use Rattle.off_chip.specs.BlockPlaces.{AllInside, LiesInside}
-use Rattle.off_chip.specs.StaticBlocks.{static_at, IsStatic}
+use Rattle.off_chip.specs.BlockPlaces.{LiesInside}
+use Rattle.off_chip.specs.StaticBlocks.{static_at}
 use Rattle.off_chip.specs.WriteBacks.{same_place, written_at, last_write, IsLastWrite}
 use Rattle.off_chip.specs.FaithfulReads.{AllReadsFaithful, IsFaithfulRead, as_written, as_loaded}
 use Rattle.off_chip.specs.HonestMemory.{moved_block, IsWhole, FirstReadsStatic, IsPlainTrace}
 use Rattle.off_chip.proofs.AnswerLemmas.{after_events-more}
 use Rattle.off_chip.proofs.ByteLemmas.{length-put, HasPlace-within, IsWordAddress-within, with_statics-zero, with_statics-more, loaded-zeros}
-use Rattle.off_chip.proofs.HistoryLemmas.{in_order-history, history-in_order}
+use Rattle.off_chip.proofs.HistoryLemmas.{in_order-history}
 use Rattle.off_chip.proofs.StaticLemmas.{static_at-is}
 use Rattle.off_chip.proofs.WriteLemmas.{same_place-Decides, last_write-in_order, last_write-never}
 

@@ -1,5 +1,5 @@
 -- Worked examples of what a bus tells, of collisions, multisets, resident places and stretches, for where they hold and where not.
-use Rattle.std.proofs.Common.{◌≡◌, ◌<◌, ◌≤◌, ℕ, ◌+◌, Bool, true, false, cond, not, ◌&&◌, List, [], ◌∷◌, ◌++◌, length, take, drop, replicate, get_or, Option, Some, None, refl, sym, ap, ◌∙◌, arith, lit≤, lit<}
+use Rattle.std.proofs.Common.{◌≡◌, ◌<◌, ◌≤◌, ℕ, true, false, List, [], ◌∷◌, ◌++◌, length, take, drop, replicate, get_or, Some, None, refl, sym, ap, ◌∙◌, arith, lit≤, lit<}
 use Rattle.std.specs.Prelude.{◌^◌}
 use Rattle.std.specs.List.{list_all}
 use Rattle.std.proofs.lemmas.List.{drop_at, length-replicate}
@@ -12,9 +12,9 @@ use Rattle.off_chip.specs.declared.event.Event.{Event}
 use Rattle.off_chip.specs.declared.event.Event.TheVariants.{BlockRead, BlockWrite, WordRead, WordWrite, Note}
 use Rattle.off_chip.specs.declared.event.Mark.TheVariants.{Enter, Drop, CheckPassed, Suspend, Resume}
 use Rattle.off_chip.specs.declared.event.Who.TheVariants.{Secure, Untrusted}
-use Rattle.off_chip.specs.Histories.{History, no_event, ◌◂◌, history}
-use Rattle.off_chip.specs.AnsweredReads.{Holds, IsAnswered}
-use Rattle.off_chip.specs.BusCalls.{HoldsTold, IsInside, IsMarkInside, TellsOnly, TellsLog}
+use Rattle.off_chip.specs.Histories.{History, no_event, ◌◂◌}
+use Rattle.off_chip.specs.AnsweredReads.{Holds}
+use Rattle.off_chip.specs.BusCalls.{HoldsTold, IsMarkInside, TellsOnly, TellsLog}
 use Rattle.off_chip.specs.BlockPlaces.{LiesInside}
 use Rattle.off_chip.specs.Collisions.{Strings, string_moved, BlockCollision, ProgramCollision, same_entry, SameEntries, sum_of, LogCollision}
 use Rattle.off_chip.specs.Entering.{enter_events, payloads_entered}

@@ -3,7 +3,7 @@ use Rattle.std.proofs.Common.{◌≡◌, ℕ, Bool, true, false, cond, not, ◌&
 use Rattle.std.specs.Prelude.{◌≢◌, unwrap_or}
 use Rattle.std.specs.Bool.{Decides}
 use Rattle.std.specs.List.{list_any}
-use Rattle.std.proofs.lemmas.Bool.{and_right, and_parts, both_ways, false_from_ne_true, not-true, or_parts, or_from, cases_Bool}
+use Rattle.std.proofs.lemmas.Bool.{and_right, and_parts, both_ways, false_from_ne_true, not-true, or_parts, or_from}
 use Rattle.aegis_num.specs.declared.storage.Block.{Block}
 use Rattle.aegis_num.specs.declared.storage.Place.{Place}
 use Rattle.aegis_num.specs.declared.storage.Place.TheVariants.{Tree, Log}
@@ -15,7 +15,7 @@ use Rattle.off_chip.specs.BlockPlaces.{named_place}
 use Rattle.off_chip.specs.Epochs.{is_passed}
 use Rattle.off_chip.specs.WriteBacks.{same_place}
 use Rattle.off_chip.specs.Residency.{check_told, in_check, is_log, concerning, is_resident, InCheck, Concerns, tree_read, log_read, write, dropped, IsResident}
-use Rattle.off_chip.proofs.HistoryLemmas.{history-append, history-cut, ToldAt, newest-ToldAt, ToldAt-newest}
+use Rattle.off_chip.proofs.HistoryLemmas.{history-cut, ToldAt, newest-ToldAt, ToldAt-newest}
 use Rattle.off_chip.proofs.WriteLemmas.{same_place-apart, same_place-Decides, same_place-refl}
 
 unwrap-true : (o : Option Bool) → unwrap_or o false ≡ true → o ≡ Some true

@@ -1,5 +1,5 @@
 -- One trace that has every case, and what each definition says of it. The answers were worked out by hand from the rules.
-use Rattle.std.proofs.Common.{inl, inr, ◌≡◌, ◌<◌, ℕ, ◌-◌, ◌/◌, ◌≤◌, zero, suc, Bool, true, false, List, [], ◌∷◌, ◌++◌, length, take, drop, replicate, eqb, Option, Some, None, refl, lit≤, arith, rules}
+use Rattle.std.proofs.Common.{◌≡◌, ℕ, ◌-◌, ◌/◌, ◌≤◌, zero, suc, Bool, true, false, List, [], ◌∷◌, ◌++◌, length, take, drop, replicate, eqb, Option, Some, None, refl, lit≤, arith, rules}
 use Rattle.std.specs.Prelude.{if◌then◌else◌}
 use Rattle.std.specs.List.{filter, filter_map}
 use Rattle.aegis_num.specs.declared.storage.Block.{Block}
@@ -14,7 +14,7 @@ use Rattle.off_chip.specs.declared.event.Mark.TheVariants.{Enter, Retire, Drop, 
 use Rattle.off_chip.specs.declared.event.Who.TheVariants.{Secure, Untrusted}
 use Rattle.off_chip.specs.Histories.{History, no_event, ◌◂◌, history, in_order, AtEach}
 use Rattle.off_chip.specs.Boundaries.{is_boundary, is_step, retired, suspensions, steps, since_step}
-use Rattle.off_chip.specs.Entering.{enter_events, payloads_entered}
+use Rattle.off_chip.specs.Entering.{enter_events}
 use Rattle.off_chip.specs.WriteBacks.{block_writes, read_at, last_write, StampsFit}
 use Rattle.off_chip.specs.FaithfulReads.{AllFaithful, TreeFaithful, LogFaithful, is_faithful, faithful_part}
 use Rattle.off_chip.specs.StaticBlocks.{static_at}

@@ -1,5 +1,5 @@
 -- What follows of block writes and their stamps.
-use Rattle.std.proofs.Common.{◌≡◌, ℕ, zero, suc, ◌+◌, ◌≤◌, Bool, true, false, cond, List, [], ◌∷◌, ◌++◌, length, Option, Some, None, refl, sym, ap, ◌∙◌, subst, inl, inr, ◌⊎◌, arith, length-append}
+use Rattle.std.proofs.Common.{◌≡◌, ℕ, zero, suc, ◌+◌, ◌≤◌, Bool, true, false, cond, List, [], ◌∷◌, ◌++◌, length, Option, Some, None, refl, sym, ap, ◌∙◌, inl, inr, ◌⊎◌, arith, length-append}
 use Rattle.std.specs.Prelude.{◌≢◌, ◌↔◌, slice_get, filter_map, option_to_list}
 use Rattle.std.specs.Bool.{Decides}
 use Rattle.std.proofs.lemmas.Bool.{false_from_ne_true, eqb-true, eq-eqb}
@@ -8,10 +8,10 @@ use Rattle.aegis_num.specs.declared.storage.Block.{Block}
 use Rattle.aegis_num.specs.declared.storage.Place.{Place}
 use Rattle.aegis_num.specs.declared.storage.Place.TheVariants.{Tree, Log}
 use Rattle.off_chip.specs.declared.event.Event.{Event}
-use Rattle.off_chip.specs.declared.event.Event.TheVariants.{BlockRead, BlockWrite, WordRead, WordWrite, Note}
-use Rattle.off_chip.specs.Histories.{History, no_event, ◌◂◌, followed, history, in_order, Each, first_told, newest}
+use Rattle.off_chip.specs.declared.event.Event.TheVariants.{BlockRead, BlockWrite}
+use Rattle.off_chip.specs.Histories.{History, no_event, ◌◂◌, history, in_order, Each, first_told}
 use Rattle.off_chip.specs.WriteBacks.{Stamped, same_place, written_at, read_at, last_write, IsLastWrite, stamp_written, block_writes, StampFits, StampsFit}
-use Rattle.off_chip.proofs.HistoryLemmas.{in_order-history, history-cut, newest-none, none-newest, newest-nothing, newest-ToldAt, ToldAt, ToldAt-newest, filter_map-nil, nil-filter_map, filter_map-push}
+use Rattle.off_chip.proofs.HistoryLemmas.{in_order-history, newest-none, none-newest, newest-ToldAt, ToldAt, ToldAt-newest, filter_map-nil, nil-filter_map, filter_map-push}
 
 pub same_place-Decides : (place other : Place) → Decides (same_place place other) (place ≡ other)
 same_place-Decides (Tree m) (Tree n) = (λ same. ap (λ (k : ℕ). Tree k) (eqb-true m n same), λ same. let e : m ≡ n = cc in eq-eqb m n e)

@@ -1,11 +1,11 @@
 -- Promise: what was written to off-chip memory in blocks, and the stamps that count these writes.
-use Rattle.std.specs.Prelude.{◌≡◌, ℕ, ◌+◌, ◌≤◌, ◌==◌, Bool, true, false, ⊤, List, [], ◌∷◌, ◌++◌, length, slice_get, filter_map, Option, Some, None, ◌↔◌, if◌then◌else◌}
+use Rattle.std.specs.Prelude.{◌≡◌, ℕ, ◌+◌, ◌≤◌, ◌==◌, Bool, false, ⊤, List, [], ◌∷◌, ◌++◌, length, slice_get, filter_map, Option, Some, None, ◌↔◌, if◌then◌else◌}
 use Rattle.aegis_num.specs.declared.storage.Block.{Block}
 use Rattle.aegis_num.specs.declared.storage.Place.{Place}
 use Rattle.aegis_num.specs.declared.storage.Place.TheVariants.{Tree, Log}
 use Rattle.off_chip.specs.declared.event.Event.{Event}
 use Rattle.off_chip.specs.declared.event.Event.TheVariants.{BlockRead, BlockWrite}
-use Rattle.off_chip.specs.Histories.{History, ◌◂◌, in_order, history, Each, newest}
+use Rattle.off_chip.specs.Histories.{History, in_order, history, Each, newest}
 
 -- whether two places are the same
 abbrev pub same_place : Place → Place → Bool
