@@ -201,7 +201,12 @@ pub fn call(
         None => Ok(0),
         Some(function) => {
             give(machine, function.parameters.as_slice(), words.as_slice())?;
-            let flow = statements(machine, &functions[..number], function.body.as_slice(), room)?;
+            let flow = statements(
+                machine,
+                &functions[..number],
+                function.body.as_slice(),
+                room,
+            )?;
             Ok(result_of(flow))
         }
     }
@@ -265,7 +270,15 @@ fn statement(
             test,
             step,
             body,
-        } => for_loop(machine, functions, first, test.as_ref(), step, body.get(), room),
+        } => for_loop(
+            machine,
+            functions,
+            first,
+            test.as_ref(),
+            step,
+            body.get(),
+            room,
+        ),
     }
 }
 

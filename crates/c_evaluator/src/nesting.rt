@@ -2,9 +2,9 @@
 //!
 //! What is open at a place counts by the part of the stack that it takes at most, in units of 128 bytes: an operator of
 //! arithmetic 1; an index, `&&`, `||`, a block, an `if` and a `while` 2; a `for` 3; a call 5.
-use crate::fault::Fault;
-
 ghost use Rattle.std.specs.Prelude.{◌≡◌, IfErr};
+
+use crate::fault::Fault;
 
 /// What an operator of arithmetic counts that is open.
 pub const OPEN_OPERATOR: u32 = 1;
