@@ -7,3 +7,4 @@ pub mod MentionedExamples
 pub mod Numbers
 pub mod MainFound
 pub mod Shaped
+mod ShapedExamples

@@ -1,10 +1,9 @@
 -- Two names are one for the map just where their bytes are equal.
-use Rattle.std.proofs.Common.{◌≡◌, ◌∙◌, ap, sym, ℕ, ◌-◌, ◌==◌, ◌&&◌, Bool, true, false, List, [], ◌∷◌, ◌++◌, length, replicate, take, refl, subst, arith}
+use Rattle.std.proofs.Common.{◌≡◌, ◌∙◌, sym, ℕ, ◌-◌, ◌==◌, ◌&&◌, Bool, true, false, List, [], ◌∷◌, ◌++◌, length, replicate, refl, subst, arith}
 use Rattle.std.specs.Str.{bytes_eq}
 use Rattle.std.proofs.lemmas.Slice.Eq.{bytes_eq-Decides}
 use Rattle.std.proofs.lemmas.Bool.Decides.{nat_tests}
 use Rattle.aegis_num.specs.declared.limits.TheConstants.{MAX_NAME_BYTES}
-use Rattle.aegis_num.specs.NameRoom.{padded}
 use Rattle.c_scopes.specs.KeptNames.{name_eq}
 
 -- two tests that hold together are one

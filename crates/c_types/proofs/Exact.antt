@@ -484,15 +484,15 @@ Comes-breaks v front back s rule breaks =
 
 -- ---- the number of locals
 
-behind_is : (locals : ℕ) (s : Site) → locals_after locals s ≡ cond (is_local s) (one_more locals) locals
-behind_is locals (site.Use how means home at) = refl
-behind_is locals (site.Local again at) = refl
-behind_is locals (site.Parameter number again at) = refl
-behind_is locals (site.Return result value at) = refl
-behind_is locals (site.Jump in_loop at) = refl
-behind_is locals (site.Global number again at) = refl
-behind_is locals (site.Length length at) = refl
-behind_is locals (site.Constant length values braces at) = refl
+after_is : (locals : ℕ) (s : Site) → locals_after locals s ≡ cond (is_local s) (one_more locals) locals
+after_is locals (site.Use how means home at) = refl
+after_is locals (site.Local again at) = refl
+after_is locals (site.Parameter number again at) = refl
+after_is locals (site.Return result value at) = refl
+after_is locals (site.Jump in_loop at) = refl
+after_is locals (site.Global number again at) = refl
+after_is locals (site.Length length at) = refl
+after_is locals (site.Constant length values braces at) = refl
 
 one_more_is : (locals : ℕ) → locals ≤ 257 → one_more locals ≡ min (locals + 1) 257
 one_more_is locals le = grind (arith, nat_tests)
@@ -525,7 +525,7 @@ count_step s ss =
 noted_locals : (v : Verdict) (ss : List Site) → v.locals ≤ 257 → (noted v ss).locals ≡ min (v.locals + count_by is_local ss) 257
 noted_locals v [] le = omega arith
 noted_locals v (s ∷ ss) le =
-    let after : (note v s).locals ≡ cond (is_local s) (one_more v.locals) v.locals = note_locals v s ∙ behind_is v.locals s in
+    let after : (note v s).locals ≡ cond (is_local s) (one_more v.locals) v.locals = note_locals v s ∙ after_is v.locals s in
     noted_locals (note v s) ss (counted_limit (is_local s) v.locals (note v s).locals le after)
     ∙ counted_step (is_local s) v.locals (count_by is_local ss) (note v s).locals le after
     ∙ ap (λ n. min (v.locals + n) 257) (sym (count_step s ss))
