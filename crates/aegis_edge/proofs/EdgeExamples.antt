@@ -1,14 +1,14 @@
 -- Worked examples of what a folder and a sink promise, and of what each promise excludes.
 use Rattle.std.proofs.Common.{◌≡◌, ℕ, zero, suc, ◌-◌, ◌^◌, List, [], ◌∷◌, None, Some, refl, ap, arith, take, if◌then◌else◌, lit≤, lit<}
 use Rattle.std.specs.Str.{bytes_eq}
-use Rattle.aegis_edge.specs.Faults.{one_more, Rose}
+use Rattle.aegis_edge.specs.Faults.{one_fault_more, Rose}
 use Rattle.aegis_edge.specs.Folder.{Files, Asking, content_of, IsFrontOf, HoldsWhole, HoldsFront, IsMissing, IsTooLong, Asks, AsksOne}
 use Rattle.aegis_edge.specs.Sink.{IsWithin, limit_after, Appends, AppendsFront}
 
 -- ---- counts
 
-one_more-three : one_more 3 ≡ 4
-one_more-three = refl
+one_fault_more-three : one_fault_more 3 ≡ 4
+one_fault_more-three = refl
 
 Rose-one : Rose 3 4
 Rose-one = lit≤ tt

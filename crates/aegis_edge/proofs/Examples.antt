@@ -1,13 +1,13 @@
 -- Worked examples of the definitions, each of which computes.
 use Rattle.std.proofs.Common.{◌≡◌, ◌-◌, ◌^◌, true, false, [], ◌∷◌, None, Some, refl}
 use Rattle.std.specs.Prelude.{codes}
-use Rattle.aegis_edge.specs.Faults.{one_more}
+use Rattle.aegis_edge.specs.Faults.{one_fault_more}
 use Rattle.aegis_edge.specs.MemFolder.{FolderInMemory, file_of, fails_next, after_read, new_folder, with_file}
-use Rattle.aegis_edge.specs.MemSink.{SinkInMemory, after_write, fails_on, new_sink}
+use Rattle.aegis_edge.specs.MemSink.{SinkInMemory, sink_after_write, fails_on, new_sink}
 
 -- a count stands still at its end
-one_more-end : one_more (2 ^ 64 - 1) ≡ 2 ^ 64 - 1
-one_more-end = refl
+one_fault_more-end : one_fault_more (2 ^ 64 - 1) ≡ 2 ^ 64 - 1
+one_fault_more-end = refl
 
 -- a folder with one file, whose second call fails
 abbrev folder : FolderInMemory
@@ -36,21 +36,21 @@ after_read-twice = refl
 abbrev sink : SinkInMemory
 sink = new_sink 4 ((0, 0) ∷ (1, 2) ∷ (1, 0) ∷ [])
 
-after_write-first : after_write sink (codes "abc") ≡ record sink { calls = 1; faults = 1 }
-after_write-first = refl
+sink_after_write-first : sink_after_write sink (codes "abc") ≡ record sink { calls = 1; faults = 1 }
+sink_after_write-first = refl
 
-after_write-second : after_write (after_write sink (codes "abc")) (codes "abc") ≡ record sink { bytes = codes "ab"; calls = 2; faults = 2 }
-after_write-second = refl
+sink_after_write-second : sink_after_write (sink_after_write sink (codes "abc")) (codes "abc") ≡ record sink { bytes = codes "ab"; calls = 2; faults = 2 }
+sink_after_write-second = refl
 
 -- the third call is not listed, and its piece fits or passes the room
 abbrev third : SinkInMemory
 third = record sink { bytes = codes "ab"; calls = 2; faults = 2 }
 
-after_write-fits : after_write third (codes "cd") ≡ record third { bytes = codes "abcd"; calls = 3 }
-after_write-fits = refl
+sink_after_write-fits : sink_after_write third (codes "cd") ≡ record third { bytes = codes "abcd"; calls = 3 }
+sink_after_write-fits = refl
 
-after_write-passes : after_write third (codes "cde") ≡ record third { bytes = codes "abcd"; calls = 3; faults = 3 }
-after_write-passes = refl
+sink_after_write-passes : sink_after_write third (codes "cde") ≡ record third { bytes = codes "abcd"; calls = 3; faults = 3 }
+sink_after_write-passes = refl
 
 fails_on-fits : fails_on third (codes "cd") ≡ false
 fails_on-fits = refl

@@ -5,8 +5,8 @@ use Rattle.aegis_edge.specs.declared.mem_folder.MemFile.{MemFile}
 use Rattle.aegis_edge.specs.declared.mem_folder.Asked.{Asked}
 
 -- a file's name and bytes
-abbrev pub entry_of : MemFile → List ℕ × List ℕ
-entry_of file = (string_bytes file.name, file.bytes.items)
+abbrev pub file_entry : MemFile → List ℕ × List ℕ
+file_entry file = (string_bytes file.name, file.bytes.items)
 
 -- a name that was asked for, as a folder tells it
 abbrev pub asking_of : Asked → Asking

@@ -3,7 +3,7 @@ use Rattle.std.specs.Prelude.{ℕ, Bool, ◌==◌, ◌&&◌, nat_le, nat_lt, Lis
 use Rattle.std.specs.List.{list_any}
 use Rattle.std.specs.Map.{lookup}
 use Rattle.std.specs.Str.{bytes_eq}
-use Rattle.aegis_edge.specs.Faults.{one_more}
+use Rattle.aegis_edge.specs.Faults.{one_fault_more}
 use Rattle.aegis_edge.specs.Folder.{Asking}
 use Rattle.aegis_edge.specs.declared.mem_folder.TheConstants.{NAME_BYTES, NAMES_KEPT}
 
@@ -43,6 +43,6 @@ with_asking (Some asked) name faults =
 abbrev pub after_read : FolderInMemory → List ℕ → FolderInMemory
 after_read folder name = record folder {
   asked = with_asking folder.asked name folder.faults;
-  calls = one_more folder.calls;
-  faults = (if fails_next folder then one_more folder.faults else folder.faults);
+  calls = one_fault_more folder.calls;
+  faults = (if fails_next folder then one_fault_more folder.faults else folder.faults);
 }

@@ -1,7 +1,7 @@
 -- Promise: a sink in memory: its bytes, its room, and the calls of `write` that fail.
 use Rattle.std.specs.Prelude.{ℕ, Bool, ◌==◌, ◌||◌, ◌-◌, nat_lt, min, List, [], ◌++◌, length, take, Option, is_some, unwrap_or, if◌then◌else◌}
 use Rattle.std.specs.Map.{lookup}
-use Rattle.aegis_edge.specs.Faults.{one_more}
+use Rattle.aegis_edge.specs.Faults.{one_fault_more}
 
 -- the bytes taken, the room in bytes, the calls that fail and after how many bytes, and how many calls and faults there were
 pub record SinkInMemory : Type 0 where
@@ -33,9 +33,9 @@ abbrev pub fails_on : SinkInMemory → List ℕ → Bool
 fails_on sink piece = is_some (bytes_before_fault sink) || nat_lt (room_left sink) (length piece)
 
 -- the sink after a call of `write`: what was taken stands at its end, one call more, and one fault more where it fails
-abbrev pub after_write : SinkInMemory → List ℕ → SinkInMemory
-after_write sink piece = record sink {
+abbrev pub sink_after_write : SinkInMemory → List ℕ → SinkInMemory
+sink_after_write sink piece = record sink {
   bytes = sink.bytes ++ take (taken_of sink piece) piece;
-  calls = one_more sink.calls;
-  faults = (if fails_on sink piece then one_more sink.faults else sink.faults);
+  calls = one_fault_more sink.calls;
+  faults = (if fails_on sink piece then one_fault_more sink.faults else sink.faults);
 }

@@ -1,7 +1,7 @@
 //! A sink over a writer of the host.
 ghost use Rattle.std.specs.Prelude.{◌≡◌, ◌≤◌, None, OnOk, OnErr, is_ok, if◌then◌else◌};
 ghost use Rattle.std.specs.Io.KnownBytes.{Appends};
-ghost use Rattle.aegis_edge.specs.Faults.{Rose, one_more};
+ghost use Rattle.aegis_edge.specs.Faults.{Rose, one_fault_more};
 ghost use Rattle.aegis_edge.specs.HostSink.{TakesFront};
 
 use crate::sink::{Sink, SinkFault};
@@ -70,7 +70,7 @@ impl<W: Write + Drop> Sink for HostSink<W> {
         ensures front { OnErr result (TakesFront self.old.contents self.new.contents bytes.now) }
 
         ensures after { self.new.faults
-            ≡ (if is_ok result then self.old.faults else one_more self.old.faults) }
+            ≡ (if is_ok result then self.old.faults else one_fault_more self.old.faults) }
         ensures failed { OnErr result (Rose self.old.faults self.new.faults) }
         ensures counted { self.old.faults ≤ self.new.faults }
     {

@@ -4,7 +4,7 @@ ghost use Rattle.std.specs.Option.{option_copied};
 ghost use Rattle.std.specs.Map.{lookup};
 ghost use Rattle.std.specs.Str.{bytes_eq};
 ghost use Rattle.aegis_edge.specs.Folder.{HoldsFront};
-ghost use Rattle.aegis_edge.specs.MemFile.{entry_of};
+ghost use Rattle.aegis_edge.specs.MemFile.{file_entry};
 ghost use Rattle.aegis_edge.specs.MemFolder.{new_folder, file_of, with_asking, with_file, fails_next, after_read};
 
 use crate::folder::{Folder, FolderError};
@@ -48,13 +48,13 @@ pub struct MemFolder {
 impl Model for MemFolder {
     ghost use Rattle.std.specs.Prelude.{◌≤◌, map, vec_capacity};
     ghost use Rattle.aegis_edge.specs.declared.mem_folder.TheConstants.{NAMES_KEPT};
-    ghost use Rattle.aegis_edge.specs.MemFile.{entry_of, askings_of};
+    ghost use Rattle.aegis_edge.specs.MemFile.{file_entry, askings_of};
     ghost use Rattle.aegis_edge.specs.MemFolder.{FolderInMemory};
 
     ghost Value = { FolderInMemory };
 
     ghost view = { λ a. record {
-      entries = map entry_of a.files.items;
+      entries = map file_entry a.files.items;
       asked = askings_of a.tells_names a.asked.items;
       failing = a.failing.items;
       calls = a.calls;
@@ -66,7 +66,7 @@ impl Model for MemFolder {
 
 // The bytes of the file of a name, where there is one.
 fn find<'a>(files: &'a [MemFile], name: &str) -> Option<&'a [u8]>
-    ensures { option_copied result ≡ lookup (bytes_eq name.now) (map entry_of files.now) }
+    ensures { option_copied result ≡ lookup (bytes_eq name.now) (map file_entry files.now) }
 {
     for file in files {
         if name == file.name.as_str() {

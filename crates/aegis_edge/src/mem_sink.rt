@@ -2,7 +2,7 @@
 ghost use Rattle.std.specs.Prelude.{◌≡◌, ◌==◌, ◌≤◌, None, Some, is_err, IfOk, OnOk, OnErr};
 ghost use Rattle.std.specs.Map.{lookup};
 ghost use Rattle.aegis_edge.specs.Faults.{Rose};
-ghost use Rattle.aegis_edge.specs.MemSink.{new_sink, fails_on, after_write};
+ghost use Rattle.aegis_edge.specs.MemSink.{new_sink, fails_on, sink_after_write};
 ghost use Rattle.aegis_edge.specs.Sink.{Appends};
 
 use crate::sink::{Sink, SinkFault};
@@ -89,7 +89,7 @@ impl Sink for MemSink {
     /// Takes a piece, and no memory.
     fn write(&mut self, bytes: &[u8]) -> Result<(), SinkFault>
         ensures fails { is_err result ≡ fails_on self.old bytes.now }
-        ensures after { self.new ≡ after_write self.old bytes.now }
+        ensures after { self.new ≡ sink_after_write self.old bytes.now }
 
         ensures taken { OnOk result
             (Appends (Some self.old.bytes) (Some self.new.bytes) bytes.now) }

@@ -7,7 +7,7 @@ use Rattle.aegis_words.specs.FileSteps.{limit_for, askings_for}
 use Rattle.aegis_words.specs.NumberWords.{is_number, bound_in, hex_bytes}
 use Rattle.aegis_words.specs.RunWordRow.{RunNames, run_row}
 use Rattle.aegis_words.specs.MeanWordRow.{MeanNames, mean_row}
-use Rattle.aegis_words.specs.CommandTable.{Run, Mean, rows, first_of, step_after, steps_of}
+use Rattle.aegis_words.specs.CommandTable.{Run, Mean, rows, first_fitting, step_after, steps_of}
 
 -- ---- words
 
@@ -65,7 +65,7 @@ names fuel key = record {
 abbrev key : List ℕ
 key = 0 ∷ 1 ∷ 2 ∷ 3 ∷ 4 ∷ 5 ∷ 6 ∷ 7 ∷ 8 ∷ 9 ∷ 10 ∷ 11 ∷ 12 ∷ 13 ∷ 14 ∷ 15 ∷ []
 
-run_ordinary : first_of rows (run_with (codes "8000000") (codes "000102030405060708090a0b0c0d0e0f")) ≡ Some (Run (names 8000000 key))
+run_ordinary : first_fitting rows (run_with (codes "8000000") (codes "000102030405060708090a0b0c0d0e0f")) ≡ Some (Run (names 8000000 key))
 unfolding decode_pairs
 run_ordinary = refl
 
@@ -77,11 +77,11 @@ run_short_key : run_row (run_with (codes "1") (codes "000102030405060708090a0b0c
 unfolding decode_pairs
 run_short_key = refl
 
-run_too_much_fuel : first_of rows (run_with (codes "33554433") (codes "000102030405060708090a0b0c0d0e0f")) ≡ None
+run_too_much_fuel : first_fitting rows (run_with (codes "33554433") (codes "000102030405060708090a0b0c0d0e0f")) ≡ None
 unfolding decode_pairs
 run_too_much_fuel = refl
 
-no_words : first_of rows [] ≡ None
+no_words : first_fitting rows [] ≡ None
 no_words = refl
 
 -- the words of a `mean` with these turns
@@ -91,19 +91,19 @@ mean_with turns = codes "mean" ∷ codes "hi.c" ∷ codes "i" ∷ turns ∷ []
 abbrev mean_names_with : ℕ → MeanNames
 mean_names_with turns = record { source = codes "hi.c"; input = codes "i"; turns = turns }
 
-mean_ordinary : first_of rows (mean_with (codes "33554432")) ≡ Some (Mean (mean_names_with 33554432))
+mean_ordinary : first_fitting rows (mean_with (codes "33554432")) ≡ Some (Mean (mean_names_with 33554432))
 mean_ordinary = refl
 
 mean_no_turns : mean_row (mean_with (codes "0")) ≡ Some (mean_names_with 0)
 mean_no_turns = refl
 
-mean_too_many_turns : first_of rows (mean_with (codes "33554433")) ≡ None
+mean_too_many_turns : first_fitting rows (mean_with (codes "33554433")) ≡ None
 mean_too_many_turns = refl
 
 mean_is_no_run : run_row (mean_with (codes "0")) ≡ None
 mean_is_no_run = refl
 
-other_word : first_of rows (codes "means" ∷ codes "hi.c" ∷ codes "i" ∷ codes "0" ∷ []) ≡ None
+other_word : first_fitting rows (codes "means" ∷ codes "hi.c" ∷ codes "i" ∷ codes "0" ∷ []) ≡ None
 other_word = refl
 
 -- ---- files

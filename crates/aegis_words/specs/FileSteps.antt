@@ -6,7 +6,7 @@ use Rattle.aegis_words.specs.declared.file.File.{File}
 use Rattle.aegis_words.specs.declared.file.File.TheVariants.{Source, Script, Input}
 
 -- a file that a command asks for, by the name that its words give
-pub record Step : Type 0 where
+pub record FileStep : Type 0 where
   pub file : File
   pub name : List ℕ
 
@@ -17,10 +17,10 @@ limit_for Script = MAX_SCRIPT_BYTES
 limit_for Input = MAX_INPUT_BYTES
 
 -- the file of a step is there with this text, where the folder tells its files, and is not too long
-pub record HasText (files : Option Files) (step : Step) (text : List ℕ) : Type 0 where
+pub record HasText (files : Option Files) (step : FileStep) (text : List ℕ) : Type 0 where
   pub whole : HoldsWhole files step.name text
   pub within : length text ≤ limit_for step.file
 
 -- how a folder is asked for the files of steps, one after another, while its count of faults stands still
-abbrev pub askings_for : ℕ → List Step → List Asking
+abbrev pub askings_for : ℕ → List FileStep → List Asking
 askings_for faults steps = map (λ step. record { name = step.name; faults = faults }) steps

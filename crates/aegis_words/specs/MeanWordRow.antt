@@ -2,7 +2,7 @@
 use Rattle.std.specs.Prelude.{ℕ, if◌then◌else◌, List, [], ◌∷◌, codes, Option, None, Some}
 use Rattle.std.specs.Str.{bytes_eq}
 use Rattle.aegis_words.specs.declared.file.File.TheVariants.{Source, Input}
-use Rattle.aegis_words.specs.FileSteps.{Step}
+use Rattle.aegis_words.specs.FileSteps.{FileStep}
 use Rattle.aegis_words.specs.NumberWords.{bound_in}
 
 -- the names of the files that a `mean` reads, and the most loop turns
@@ -23,7 +23,7 @@ mean_row (command ∷ source ∷ input ∷ turns ∷ []) =
 mean_row words = None
 
 -- the file that a `mean` reads after these texts, the latest of them first
-abbrev pub mean_step_after : MeanNames → List (List ℕ) → Option Step
+abbrev pub mean_step_after : MeanNames → List (List ℕ) → Option FileStep
 mean_step_after names [] = Some (record { file = Source; name = names.source })
 mean_step_after names (source ∷ []) = Some (record { file = Input; name = names.input })
 mean_step_after names (input ∷ source ∷ earlier) = None

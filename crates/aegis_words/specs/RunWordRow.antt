@@ -2,7 +2,7 @@
 use Rattle.std.specs.Prelude.{ℕ, if◌then◌else◌, List, [], ◌∷◌, codes, Option, None, Some}
 use Rattle.std.specs.Str.{bytes_eq}
 use Rattle.aegis_words.specs.declared.file.File.TheVariants.{Source, Script, Input}
-use Rattle.aegis_words.specs.FileSteps.{Step}
+use Rattle.aegis_words.specs.FileSteps.{FileStep}
 use Rattle.aegis_words.specs.NumberWords.{bound_in, hex_bytes}
 
 -- the names of the files that a run reads, its fuel, and the bytes of its key and its nonce
@@ -29,7 +29,7 @@ run_row (command ∷ source ∷ script ∷ input ∷ fuel ∷ key ∷ nonce ∷ 
 run_row words = None
 
 -- the file that a run reads after these texts, the latest of them first
-abbrev pub run_step_after : RunNames → List (List ℕ) → Option Step
+abbrev pub run_step_after : RunNames → List (List ℕ) → Option FileStep
 run_step_after names [] = Some (record { file = Source; name = names.source })
 run_step_after names (source ∷ []) = Some (record { file = Script; name = names.script })
 run_step_after names (script ∷ source ∷ []) = Some (record { file = Input; name = names.input })
