@@ -6,14 +6,14 @@ use Rattle.std.proofs.Math.ListN.{length-set}
 use Rattle.std.specs.List.{AllByRecursion}
 use Rattle.orbis_word.specs.declared.Instr.{Instr}
 use Rattle.orbis_word.specs.declared.Instr.TheVariants.{Nop, Ori, Cust1}
-use Rattle.orbis_word.specs.Table.{IsInRange, word_of}
+use Rattle.orbis_word.specs.Table.{IsInRange, encoding}
 use Rattle.regions.specs.declared.Access.TheVariants.{Fetch}
 use Rattle.regions.specs.declared.Mode.TheVariants.{Ptr}
 use Rattle.regions.specs.declared.addresses.TheConstants.{TREE_START}
 use Rattle.orbis_core.specs.Effects.{effect_of}
 use Rattle.orbis_core.specs.ByteOrder.{bytes_of}
-use Rattle.orbis_core.proofs.FlatLaws.{fetch-code, length-bytes_of, word_at-static, words_in-bytes_of}
-use Rattle.orbis_core.specs.FlatMemory.{Flat, flat_of, word_at}
+use Rattle.orbis_core.proofs.FlatLaws.{fetch-code, length-bytes_of, flat_word-static, words_in-bytes_of}
+use Rattle.orbis_core.specs.FlatMemory.{Flat, flat_of, flat_word}
 use Rattle.orbis_core.specs.Processor.{Processor, register}
 use Rattle.orbis_core.specs.Refusals.{answered, word_refusal}
 use Rattle.orbis_core.specs.ByteOrder.{words_in}
@@ -41,12 +41,12 @@ program-AreWords (literal ∷ literals) = (omega arith, (omega arith, program-Ar
 
 pub code-AreWords : (literals : List ℕ) → AreWords (code_of literals)
 code-AreWords literals =
-    append-AreWords (program_of literals) (replicate (words_left (length (program_of literals))) (word_of (Nop 0)))
-    (program-AreWords literals) (replicate-AreWords (words_left (length (program_of literals))) (word_of (Nop 0)) (omega arith))
+    append-AreWords (program_of literals) (replicate (words_left (length (program_of literals))) (encoding (Nop 0)))
+    (program-AreWords literals) (replicate-AreWords (words_left (length (program_of literals))) (encoding (Nop 0)) (omega arith))
 
 -- a memory that holds code answers a fetch by the word there
 fetched-word : (memory : Flat) (code : List ℕ) (k at word : ℕ) → HoldsCode memory code → AreWords code → length code % 16 ≡ 0 → length code ≤ 16 * 6561 → k < length code
-    → at ≡ TREE_START + 4 * k → get_or code k 0 ≡ word → answered (word_refusal memory.layout Ptr Fetch at) (word_at memory at) ≡ Ok word
+    → at ≡ TREE_START + 4 * k → get_or code k 0 ≡ word → answered (word_refusal memory.layout Ptr Fetch at) (flat_word memory at) ≡ Ok word
 fetched-word memory code k at word holds small whole fits below place is =
     let v : memory.layout.verified ≡ 0 = holds.verified in
     let p : memory.layout.private ≡ 0 = holds.private in
@@ -56,9 +56,9 @@ fetched-word memory code k at word holds small whole fits below place is =
     let words : words_in (bytes_of code) ≡ code = words_in-bytes_of code small in
     let many : length (words_in (bytes_of code)) ≡ length code = ap length words in
     let bytes : length (bytes_of code) ≡ 4 * length code = length-bytes_of code in
-    let there : word_at (flat_of memory.layout (bytes_of code)) at ≡ get_or (words_in (bytes_of code)) k 0 =
-    word_at-static memory.layout (bytes_of code) k at (omega arith) (omega arith) (omega arith) (omega arith) in
-    let found : word_at memory at ≡ word = ap (λ m. word_at m at) holds.filled ∙ there ∙ ap (λ ws. get_or ws k 0) words ∙ is in
+    let there : flat_word (flat_of memory.layout (bytes_of code)) at ≡ get_or (words_in (bytes_of code)) k 0 =
+    flat_word-static memory.layout (bytes_of code) k at (omega arith) (omega arith) (omega arith) (omega arith) in
+    let found : flat_word memory at ≡ word = ap (λ m. flat_word m at) holds.filled ∙ there ∙ ap (λ ws. get_or ws k 0) words ∙ is in
     rw (allowed, found) refl
 
 -- the words before are done, and the processor stands at the first word of those behind
@@ -75,13 +75,13 @@ record IsLoaded (memory : Flat) (code : List ℕ) : Type 0 where
 
 -- the fetch answers the word that the processor stands at
 fetched-stands : (memory : Flat) (code before behind : List ℕ) (instruction : Instr) (core : Processor) → IsLoaded memory code → IsInRange instruction
-    → StandsAt code before (word_of instruction ∷ behind) core → Fetches memory core instruction
+    → StandsAt code before (encoding instruction ∷ behind) core → Fetches memory core instruction
 fetched-stands memory code before behind instruction core loaded in_range at =
     let below : length before < length code = rw at.whole (simp length-append (omega arith)) in
-    let there : get_or code (length before) 0 ≡ word_of instruction = rw at.whole (grind (arith, common_steps)) in
+    let there : get_or code (length before) 0 ≡ encoding instruction = rw at.whole (grind (arith, common_steps)) in
     record {
       in_range = in_range;
-      word = fetched-word memory code (length before) core.pc (word_of instruction) loaded.holds loaded.small loaded.blocks loaded.fits below at.place there;
+      word = fetched-word memory code (length before) core.pc (encoding instruction) loaded.holds loaded.small loaded.blocks loaded.fits below at.place there;
     }
 
 -- behind a word the processor stands at the next one
@@ -142,7 +142,7 @@ runs-from memory code fill loaded (literal ∷ literals) before core is at =
     let half : Processor = straight_core (effect_of low core) core in
     let behind : Processor = straight_core (effect_of release half) half in
     let later : List ℕ = program_of literals ++ fill in
-    let at_release : StandsAt code (before ++ word_of low ∷ []) (word_of release ∷ later) half = stands-next code before _ _ core half loaded.fits at refl in
+    let at_release : StandsAt code (before ++ encoding low ∷ []) (encoding release ∷ later) half = stands-next code before _ _ core half loaded.fits at refl in
     let at_later : StandsAt code _ later behind = stands-next code _ _ _ half behind loaded.fits at_release refl in
     let held : Holds half literal = holds-half core literal is in
     let byte : register half 3 % 256 ≡ literal % 256 = ap (λ n. n % 256) held.half ∙ low_byte literal in (
@@ -168,7 +168,7 @@ length-program_of (literal ∷ literals) = let rest : length (program_of literal
 length-code_of : (literals : List ℕ) → length (code_of literals) ≡ 2 * length literals + 1 + words_left (2 * length literals + 1)
 length-code_of literals =
     let program : length (program_of literals) ≡ 2 * length literals + 1 = length-program_of literals in
-    length-append (program_of literals) _ ∙ ap (λ n. length (program_of literals) + n) (length-replicate (words_left (length (program_of literals))) (word_of (Nop 0)))
+    length-append (program_of literals) _ ∙ ap (λ n. length (program_of literals) + n) (length-replicate (words_left (length (program_of literals))) (encoding (Nop 0)))
     ∙ ap (λ n. n + words_left n) program
 
 -- code that was compiled from few literals fills whole blocks, fits the memory, and runs to its exit

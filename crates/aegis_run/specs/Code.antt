@@ -8,7 +8,7 @@ use Rattle.aegis_run.specs.declared.ends.TopEnd.{TopEnd}
 use Rattle.aegis_run.specs.declared.ends.TopEnd.TheVariants.{Run, OutOfMemory}
 use Rattle.orbis_word.specs.declared.Instr.{Instr}
 use Rattle.orbis_word.specs.declared.Instr.TheVariants.{Nop, Ori, Cust1}
-use Rattle.orbis_word.specs.Table.{IsInRange, word_of}
+use Rattle.orbis_word.specs.Table.{IsInRange, encoding}
 use Rattle.regions.specs.declared.Access.TheVariants.{Fetch}
 use Rattle.regions.specs.declared.Mode.TheVariants.{Ptr}
 use Rattle.regions.specs.declared.addresses.TheConstants.{TREE_START}
@@ -18,18 +18,18 @@ use Rattle.orbis_core.specs.declared.StepEnd.{StepEnd}
 use Rattle.orbis_core.specs.declared.StepEnd.TheVariants.{Next, Released, Exit}
 use Rattle.orbis_core.specs.Effects.{effect_of}
 use Rattle.orbis_core.specs.ByteOrder.{bytes_of}
-use Rattle.orbis_core.specs.FlatMemory.{Flat, flat_of, word_at}
+use Rattle.orbis_core.specs.FlatMemory.{Flat, flat_of, flat_word}
 use Rattle.orbis_core.specs.Processor.{Processor, advanced, core_after}
 use Rattle.orbis_core.specs.Refusals.{answered, word_refusal}
 use Rattle.orbis_core.specs.Secure.{secure_end, secure_of}
 
 -- the low half of a literal is put into r3, and its low byte is released
 abbrev pub release_code : ℕ → List ℕ
-release_code literal = map word_of (Ori 3 0 (literal % 65536) ∷ Cust1 6 ∷ [])
+release_code literal = map encoding (Ori 3 0 (literal % 65536) ∷ Cust1 6 ∷ [])
 
 -- the program of a source that releases these literals: each in turn, and then the exit
 abbrev pub program_of : List ℕ → List ℕ
-program_of literals = flat_map release_code literals ++ word_of (Cust1 1) ∷ []
+program_of literals = flat_map release_code literals ++ encoding (Cust1 1) ∷ []
 
 -- how many words of the last block are left
 abbrev pub words_left : ℕ → ℕ
@@ -37,7 +37,7 @@ words_left count = (16 - count % 16) % 16
 
 -- the code fills whole blocks, the last one with instructions that do nothing
 abbrev pub code_of : List ℕ → List ℕ
-code_of literals = program_of literals ++ replicate (words_left (length (program_of literals))) (word_of (Nop 0))
+code_of literals = program_of literals ++ replicate (words_left (length (program_of literals))) (encoding (Nop 0))
 
 -- the memory holds this code, in blocks of code alone
 pub record HoldsCode (memory : Flat) (code : List ℕ) : Type 0 where
@@ -69,7 +69,7 @@ straight_core effect core = core_after effect core
 -- the memory answers a fetch at the program counter by the word of this instruction
 pub record Fetches (memory : Flat) (core : Processor) (instruction : Instr) : Type 0 where
   pub in_range : IsInRange instruction
-  pub word : answered (word_refusal memory.layout Ptr Fetch core.pc) (word_at memory core.pc) ≡ Ok (word_of instruction)
+  pub word : answered (word_refusal memory.layout Ptr Fetch core.pc) (flat_word memory core.pc) ≡ Ok (encoding instruction)
 
 -- what is left to release, and in how many steps, behind a step that ends so
 abbrev pub GoesOn : StepEnd → (List ℕ → Type 0) → ℕ → List ℕ → Type 0

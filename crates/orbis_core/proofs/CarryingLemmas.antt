@@ -11,7 +11,7 @@ use Rattle.orbis_core.specs.Accesses.{Accesses}
 use Rattle.orbis_core.specs.Carrying.{CarriedTo, CarriesOver, StepsCarry}
 use Rattle.orbis_core.specs.Effects.{effect_of}
 use Rattle.orbis_core.specs.Processor.{Processor}
-use Rattle.orbis_core.specs.Rows.{Machine, Carries, Executes, GoesOn, Leaves, over}
+use Rattle.orbis_core.specs.Rows.{Machine, Carries, Executes, GoesOnAfter, Leaves, over}
 
 module _ {M N : Type 0} (from : Accesses M) (to : Accesses N) (related_to : M → N → Type 0) (carries : CarriesOver from to related_to) (new : Machine M) (ended : StepEnd) where
   -- nothing is accessed
@@ -66,8 +66,8 @@ module _ {M N : Type 0} (from : Accesses M) (to : Accesses N) (related_to : M �
   executes old other None related row = leaves old other _ _ _ related row
   executes old other (Some instruction) related row = effects old other (effect_of instruction old.core) related row
 
-  goes-on : (old : Machine M) (other : N) (answer : Result ℕ Stop) → related_to old.memory other → GoesOn from answer old ended new
-      → CarriedTo related_to new.memory (λ (after : N). GoesOn to answer (over other old) ended (over after new))
+  goes-on : (old : Machine M) (other : N) (answer : Result ℕ Stop) → related_to old.memory other → GoesOnAfter from answer old ended new
+      → CarriedTo related_to new.memory (λ (after : N). GoesOnAfter to answer (over other old) ended (over after new))
   goes-on old other (Err stop) related row = leaves old other _ _ _ related row
   goes-on old other (Ok word) related row = executes old other (instruction_in word) related row
 

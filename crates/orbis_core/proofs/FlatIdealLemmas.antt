@@ -35,12 +35,12 @@ use Rattle.orbis_core.specs.ByteOrder.{byte_in, with_byte, words_in, updated, wo
 use Rattle.orbis_core.specs.Carrying.{CarriedTo, CarriesOver}
 use Rattle.orbis_core.specs.Effects.{effect_of}
 use Rattle.orbis_core.specs.FlatIsIdeal.{HasWords, IsTied, Follows, IsKeptOut, FlatStepIsIdeal, FlatStartIsIdeal}
-use Rattle.orbis_core.specs.FlatMemory.{Flat, flat_accesses, flat_accesses_in, index_of, put, word_at, word_count, flat_of, open_words, block_words}
+use Rattle.orbis_core.specs.FlatMemory.{Flat, flat_accesses, flat_accesses_in, index_of, put, flat_word, word_count, flat_of, open_words, block_words}
 use Rattle.orbis_core.specs.Ideal.{Ideal, Refused, accessed_by, carried, effect_at, from_nowhere, ideal_step, is_among, loads, memory_stored, static_memory, stores, traffic_stored, unless}
 use Rattle.orbis_core.specs.OwnMemory.{Own, OwnLoad, OwnStore, own_accesses}
 use Rattle.orbis_core.specs.Processor.{Processor}
 use Rattle.orbis_core.specs.Refusals.{answered, is_allowed, word_refusal, byte_refusal, unless_refused}
-use Rattle.orbis_core.specs.Rows.{Machine, Carries, Executes, GoesOn, Steps, over}
+use Rattle.orbis_core.specs.Rows.{Machine, Carries, Executes, GoesOnAfter, Steps, over}
 use Rattle.orbis_core.proofs.CarryingLemmas.{steps-carry}
 use Rattle.orbis_core.proofs.FlatLaws.{length-words_in, between}
 use Rattle.orbis_core.proofs.OwnLemmas.{step-facts}
@@ -244,7 +244,7 @@ words_put flat memory at word has some =
       each = λ other other_aligned other_some.
           elim (cases_eq other start) [
             | inl is ↦
-                let P : ℕ → Type 0 = λ o. updated memory start word o ≡ word_at (put flat at word) o in
+                let P : ℕ → Type 0 = λ o. updated memory start word o ≡ flat_word (put flat at word) o in
                 subst P (sym is) (hit memory start word ∙ sym (set_hit flat.words (index_of flat.layout at) (index_of flat.layout start) word below (sym same)))
             | inr apart ↦
                 miss memory start word other apart ∙ has.each other other_aligned other_some
@@ -290,7 +290,7 @@ module _ (mode : Mode) where
   }
 
   -- the word that an address lies in, where it has a class
-  word-alike : (flat : Flat) (memory : ℕ → ℕ) (at : ℕ) → HasWords flat memory → IsSome (class_at flat.layout at) → memory (word_start at) ≡ word_at flat at
+  word-alike : (flat : Flat) (memory : ℕ → ℕ) (at : ℕ) → HasWords flat memory → IsSome (class_at flat.layout at) → memory (word_start at) ≡ flat_word flat at
   word-alike flat memory at words some =
       words.each (word_start at) (start_aligned at) (some_start flat.layout at some)
       ∙ ap (λ i. get_or flat.words i 0) (same_index flat.layout at (inside flat.layout at some))
@@ -316,7 +316,7 @@ module _ (mode : Mode) where
     fetch = λ old new at answer other r done. subst (λ (o : Own). CarriedTo (IsOwnOf mode) new (own_accesses.fetch o at answer)) (sym r.is) (record {
       after = own_with old.layout mode r.memory r.traffic;
       done = (
-        done.0 ∙ alike (word_refusal old.layout mode Fetch at) (word_at old at) (r.memory at)
+        done.0 ∙ alike (word_refusal old.layout mode Fetch at) (flat_word old at) (r.memory at)
             (λ none. let place : IsAligned old.layout at = word_some old.layout mode Fetch at none in sym (r.words.each at place.aligned place.some)),
         refl,
       );
@@ -324,7 +324,7 @@ module _ (mode : Mode) where
     });
     load_word = λ old new at answer other r done. subst (λ (o : Own). CarriedTo (IsOwnOf mode) new (own_accesses.load_word o at answer)) (sym r.is) (record {
       after = own_with old.layout mode r.memory r.traffic;
-      done = own-load (word_refusal old.layout mode Read at) (is_among nothing_loose old.layout at) (loose_word nat_eq at r.traffic) (r.memory at) (word_at old at)
+      done = own-load (word_refusal old.layout mode Read at) (is_among nothing_loose old.layout at) (loose_word nat_eq at r.traffic) (r.memory at) (flat_word old at)
           (own_with old.layout mode r.memory r.traffic) answer (none_loose old.layout at)
           (λ none. let place : IsAligned old.layout at = word_some old.layout mode Read at none in r.words.each at place.aligned place.some) done.0;
       related = stays old new r.memory r.traffic r.words done.1;
@@ -332,7 +332,7 @@ module _ (mode : Mode) where
     load_byte = λ old new at answer other r done. subst (λ (o : Own). CarriedTo (IsOwnOf mode) new (own_accesses.load_byte o at answer)) (sym r.is) (record {
       after = own_with old.layout mode r.memory r.traffic;
       done = own-load (byte_refusal old.layout mode Read at) (is_among nothing_loose old.layout at) (option_map (λ word. word % 2 ^ 8) (loose_word nat_eq at r.traffic))
-          (byte_in (r.memory (word_start at)) at) (byte_in (word_at old at) at) (own_with old.layout mode r.memory r.traffic) answer (none_loose old.layout at)
+          (byte_in (r.memory (word_start at)) at) (byte_in (flat_word old at) at) (own_with old.layout mode r.memory r.traffic) answer (none_loose old.layout at)
           (λ none. ap (λ word. byte_in word at) (word-alike old r.memory at r.words (byte_some old.layout mode Read at none))) done.0;
       related = stays old new r.memory r.traffic r.words done.1;
     });
@@ -340,11 +340,11 @@ module _ (mode : Mode) where
         (own-store old new r.memory r.traffic (word_refusal old.layout mode Write at) at word word word answer r.words
         (λ none. words_put old r.memory at word r.words (word_some old.layout mode Write at none).some) done.0 done.1);
     store_byte = λ old new at byte answer other r done. subst (λ (o : Own). CarriedTo (IsOwnOf mode) new (own_accesses.store_byte o at byte answer)) (sym r.is)
-        (own-store old new r.memory r.traffic (byte_refusal old.layout mode Write at) at byte (with_byte (r.memory (word_start at)) at byte) (with_byte (word_at old at) at byte) answer r.words
+        (own-store old new r.memory r.traffic (byte_refusal old.layout mode Write at) at byte (with_byte (r.memory (word_start at)) at byte) (with_byte (flat_word old at) at byte) answer r.words
         (λ none.
         let some : IsSome (class_at old.layout at) = byte_some old.layout mode Write at none in
-        let P : ℕ → Type 0 = λ word. HasWords (put old at (with_byte (word_at old at) at byte)) (updated r.memory (word_start at) (with_byte word at byte)) in
-        subst P (sym (word-alike old r.memory at r.words some)) (words_put old r.memory at (with_byte (word_at old at) at byte) r.words some))
+        let P : ℕ → Type 0 = λ word. HasWords (put old at (with_byte (flat_word old at) at byte)) (updated r.memory (word_start at) (with_byte word at byte)) in
+        subst P (sym (word-alike old r.memory at r.words some)) (words_put old r.memory at (with_byte (flat_word old at) at byte) r.words some))
         done.0 done.1);
   }
 
@@ -457,7 +457,7 @@ module _ (old new : Machine Flat) (ended : StepEnd) (memory : ℕ → ℕ) (traf
         | inl hidden ↦ inr (kept-out (effect.LoadWord d at) at is none refl hidden (ap (λ r. unless r in_te (loads te_layout from_nowhere d at (loose_word nat_eq at traffic) (memory at) in_te)) (private-word te_layout Read at hidden)))
         | inr other ↦ inl (record {
           answer = row.answer;
-          loaded = (row.loaded.0 ∙ ap (λ r. answered r (word_at old.memory at)) (same-word te_layout Read at other), row.loaded.1);
+          loaded = (row.loaded.0 ∙ ap (λ r. answered r (flat_word old.memory at)) (same-word te_layout Read at other), row.loaded.1);
           ends = row.ends;
           core = row.core;
           port = row.port;
@@ -469,7 +469,7 @@ module _ (old new : Machine Flat) (ended : StepEnd) (memory : ℕ → ℕ) (traf
             (ap (λ r. unless r in_te (loads te_layout from_nowhere d at (option_map (λ word. word % 2 ^ 8) (loose_word nat_eq at traffic)) (byte_in (memory (word_start at)) at) in_te)) (private-byte te_layout Read at hidden)))
         | inr other ↦ inl (record {
           answer = row.answer;
-          loaded = (row.loaded.0 ∙ ap (λ r. answered r (byte_in (word_at old.memory at) at)) (same-byte te_layout Read at other), row.loaded.1);
+          loaded = (row.loaded.0 ∙ ap (λ r. answered r (byte_in (flat_word old.memory at) at)) (same-byte te_layout Read at other), row.loaded.1);
           ends = row.ends;
           core = row.core;
           port = row.port;
@@ -497,7 +497,7 @@ module _ (old new : Machine Flat) (ended : StepEnd) (memory : ℕ → ℕ) (traf
           answer = row.answer;
           stored = (
             row.stored.0 ∙ ap (λ r. answered r tt) (same-byte te_layout Write at other),
-            row.stored.1 ∙ ap (λ r. unless_refused r old.memory (put old.memory at (with_byte (word_at old.memory at) at byte))) (same-byte te_layout Write at other),
+            row.stored.1 ∙ ap (λ r. unless_refused r old.memory (put old.memory at (with_byte (flat_word old.memory at) at byte))) (same-byte te_layout Write at other),
           );
           ends = row.ends;
           core = row.core;
@@ -521,26 +521,26 @@ module _ (old new : Machine Flat) (ended : StepEnd) (memory : ℕ → ℕ) (traf
   te-step : Steps flat_accesses old ended new → Steps (flat_accesses_in Te) old ended new ⊎ IsOut
   te-step step = go (word_refusal te_layout Te Fetch old.core.pc) refl
     where
-      from_old : GoesOn flat_accesses step.answer old ended new
-      from_old = subst (λ (m : Flat). GoesOn flat_accesses step.answer (record old { memory = m }) ended new) step.fetched.1 step.goes_on
+      from_old : GoesOnAfter flat_accesses step.answer old ended new
+      from_old = subst (λ (m : Flat). GoesOnAfter flat_accesses step.answer (record old { memory = m }) ended new) step.fetched.1 step.goes_on
 
-      answer-te : step.answer ≡ answered (word_refusal te_layout Te Fetch old.core.pc) (word_at old.memory old.core.pc)
-      answer-te = step.fetched.0 ∙ ap (λ r. answered r (word_at old.memory old.core.pc)) (same-fetch te_layout old.core.pc)
+      answer-te : step.answer ≡ answered (word_refusal te_layout Te Fetch old.core.pc) (flat_word old.memory old.core.pc)
+      answer-te = step.fetched.0 ∙ ap (λ r. answered r (flat_word old.memory old.core.pc)) (same-fetch te_layout old.core.pc)
 
-      rebuilt : GoesOn (flat_accesses_in Te) step.answer old ended new → Steps (flat_accesses_in Te) old ended new
+      rebuilt : GoesOnAfter (flat_accesses_in Te) step.answer old ended new → Steps (flat_accesses_in Te) old ended new
       rebuilt row = record { answer = step.answer; middle = old.memory; fetched = (answer-te, refl); goes_on = row }
 
       go : (r : Option Why) → r ≡ word_refusal te_layout Te Fetch old.core.pc → Steps (flat_accesses_in Te) old ended new ⊎ IsOut
       go (Some reason) is =
-          let answer : step.answer ≡ Err (stop.Refused reason) = answer-te ∙ ap (λ r. answered r (word_at old.memory old.core.pc)) (sym is) in
-          inl (rebuilt (subst (λ (a : Result ℕ Stop). GoesOn (flat_accesses_in Te) a old ended new) (sym answer) (subst (λ (a : Result ℕ Stop). GoesOn flat_accesses a old ended new) answer from_old)))
+          let answer : step.answer ≡ Err (stop.Refused reason) = answer-te ∙ ap (λ r. answered r (flat_word old.memory old.core.pc)) (sym is) in
+          inl (rebuilt (subst (λ (a : Result ℕ Stop). GoesOnAfter (flat_accesses_in Te) a old ended new) (sym answer) (subst (λ (a : Result ℕ Stop). GoesOnAfter flat_accesses a old ended new) answer from_old)))
       go None is =
-          let answer : step.answer ≡ Ok (word_at old.memory old.core.pc) = answer-te ∙ ap (λ r. answered r (word_at old.memory old.core.pc)) (sym is) in
+          let answer : step.answer ≡ Ok (flat_word old.memory old.core.pc) = answer-te ∙ ap (λ r. answered r (flat_word old.memory old.core.pc)) (sym is) in
           let place : IsAligned te_layout old.core.pc = word_some te_layout Te Fetch old.core.pc (sym is) in
-          let word : word_at old.memory old.core.pc ≡ memory old.core.pc = sym (has.each old.core.pc place.aligned place.some) in
-          let row : Executes flat_accesses (instruction_in (word_at old.memory old.core.pc)) old ended new = subst (λ (a : Result ℕ Stop). GoesOn flat_accesses a old ended new) answer from_old in
-          elim (te-executes (instruction_in (word_at old.memory old.core.pc)) (ap (λ w. option_map (λ instruction. effect_of instruction old.core) (instruction_in w)) word) (sym is) row) [
-            | inl done ↦ inl (rebuilt (subst (λ (a : Result ℕ Stop). GoesOn (flat_accesses_in Te) a old ended new) (sym answer) done))
+          let word : flat_word old.memory old.core.pc ≡ memory old.core.pc = sym (has.each old.core.pc place.aligned place.some) in
+          let row : Executes flat_accesses (instruction_in (flat_word old.memory old.core.pc)) old ended new = subst (λ (a : Result ℕ Stop). GoesOnAfter flat_accesses a old ended new) answer from_old in
+          elim (te-executes (instruction_in (flat_word old.memory old.core.pc)) (ap (λ w. option_map (λ instruction. effect_of instruction old.core) (instruction_in w)) word) (sym is) row) [
+            | inl done ↦ inl (rebuilt (subst (λ (a : Result ℕ Stop). GoesOnAfter (flat_accesses_in Te) a old ended new) (sym answer) done))
             | inr out ↦ inr out
           ]
 

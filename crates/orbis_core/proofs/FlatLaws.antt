@@ -10,7 +10,7 @@ use Rattle.regions.specs.declared.Access.TheVariants.{Fetch}
 use Rattle.regions.specs.Addresses.{start_of, class_at}
 use Rattle.regions.proofs.AddressLaws.{class_at-LiesIn}
 use Rattle.regions.specs.Blocks.{data_blocks}
-use Rattle.orbis_core.specs.FlatMemory.{flat_of, word_at, index_of, open_words, block_words}
+use Rattle.orbis_core.specs.FlatMemory.{flat_of, flat_word, index_of, open_words, block_words}
 use Rattle.orbis_core.specs.Refusals.{word_refusal}
 use Rattle.orbis_core.specs.ByteOrder.{bytes_of, words_in, word_of_bytes}
 
@@ -42,10 +42,10 @@ between front words back count k long below =
     rw (← long, append_assoc front words back, get_or-append-add front (words ++ back) k 0) (get_or_append_left words back 0 k below)
 
 -- the static words stand from the first constant block on
-pub word_at-static : (layout : Layout) (statics : List ℕ) (k at : ℕ) → data_blocks layout ≤ 6561 → k < length (words_in statics)
+pub flat_word-static : (layout : Layout) (statics : List ℕ) (k at : ℕ) → data_blocks layout ≤ 6561 → k < length (words_in statics)
     → length statics ≡ 64 * (layout.constants + layout.code) → at ≡ start_of layout Constant + 4 * k
-    → word_at (flat_of layout statics) at ≡ get_or (words_in statics) k 0
-word_at-static layout statics k at fits below whole place =
+    → flat_word (flat_of layout statics) at ≡ get_or (words_in statics) k 0
+flat_word-static layout statics k at fits below whole place =
     let within : k < 16 * (layout.constants + layout.code) = omega (arith, length-words_in statics) in
     let index : index_of layout at ≡ open_words + block_words * (layout.verified + layout.private) + k = grind (arith, nat_tests) in
     let count : ℕ = open_words + block_words * (layout.verified + layout.private) in

@@ -12,7 +12,7 @@ use Rattle.orbis_core.specs.declared.stepping.StepEnd.TheVariants.{Stopped}
 use Rattle.orbis_core.specs.Accesses.{Accesses, IsSettled, LeaveOneFewer, LeavesOneFewer}
 use Rattle.orbis_core.specs.Effects.{effect_of}
 use Rattle.orbis_core.specs.Processor.{Processor}
-use Rattle.orbis_core.specs.Rows.{Machine, Carries, Executes, GoesOn, IsSettledEnd, Leaves, LeavesFewer, Steps, StepsLeaveFewer, end_after}
+use Rattle.orbis_core.specs.Rows.{Machine, Carries, Executes, GoesOnAfter, IsSettledEnd, Leaves, LeavesFewer, Steps, StepsLeaveFewer, end_after}
 
 settled : {T : Type 0} (answer : Result T Stop) → IsSettledEnd (end_after answer) → IsSettled answer
 settled (Ok value) is = tt
@@ -42,7 +42,7 @@ module _ {M : Type 0} (accesses : Accesses M) (has_left : M → ℕ → Type 0) 
   executes old None row is n has = leaves-all old _ _ _ row is n has
   executes old (Some instruction) row is n has = effects old (effect_of instruction old.core) row is n has
 
-  goes-on : (old : Machine M) (middle : M) (answer : Result ℕ Stop) → LeavesOneFewer has_left old.memory answer middle → GoesOn accesses answer (record old { memory = middle }) ended new
+  goes-on : (old : Machine M) (middle : M) (answer : Result ℕ Stop) → LeavesOneFewer has_left old.memory answer middle → GoesOnAfter accesses answer (record old { memory = middle }) ended new
       → LeavesFewer 2 has_left old.memory ended new.memory
   goes-on old middle (Ok word) left row is n has =
       let e : n + 2 ≡ n + 1 + 1 = omega arith in

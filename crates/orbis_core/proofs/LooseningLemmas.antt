@@ -21,7 +21,7 @@ use Rattle.orbis_core.specs.declared.memory.Why.TheVariants as why
 use Rattle.orbis_core.specs.ByteOrder.{byte_in, updated, with_byte, word_start}
 use Rattle.orbis_core.specs.Effects.{effect_of}
 use Rattle.orbis_core.specs.Ideal.{Ideal, IdealEnd, Refused, Starved, carried, executed, from_entries, ideal_step, instruction_at, is_among, loaded, memory_stored, secured, stores, taken, traffic_stored, unless}
-use Rattle.orbis_core.specs.IdealLaws.{IsWhole}
+use Rattle.orbis_core.specs.IdealLaws.{IsWholeState}
 use Rattle.orbis_core.specs.Loosening.{AgreesOutside, ComesLoosened, IsLoosened, RunsLoosen, loosened}
 use Rattle.orbis_core.specs.Processor.{Processor, advanced, written}
 use Rattle.orbis_core.specs.Refusals.{word_refusal, byte_refusal}
@@ -316,13 +316,13 @@ module _ (layout : Layout) (fewer more : Class → Bool) (among : AreAmong fewer
         (refl, record { memory = memory; taken = count; agrees = l.agrees; is = refl })),
   )
 
-  run-loosens : (steps : ℕ) (state : Ideal) (memory : ℕ → ℕ) (count : ℕ) → IsWhole state → IsTrue (is_secure state.mode) → AgreesOutside layout more state.memory memory → RunLoosens steps state memory count
+  run-loosens : (steps : ℕ) (state : Ideal) (memory : ℕ → ℕ) (count : ℕ) → IsWholeState state → IsTrue (is_secure state.mode) → AgreesOutside layout more state.memory memory → RunLoosens steps state memory count
   run-loosens zero state memory count whole secure agrees = (state.traffic.loose, record { memory = memory; taken = count; agrees = agrees; is = refl })
   run-loosens (suc steps) state memory count whole secure agrees =
       goes-on steps state memory count (ideal_step layout fewer state) refl (step-loosens layout fewer more among state memory count agrees code whole.words secure)
       (λ after is memory_after count_after agrees_after.
       run-loosens steps after memory_after count_after
-      (subst (λ (n : Next Ideal IdealEnd). IsWhole (state_of n)) is (steps-whole layout (from_entries fewer) state (entries-give fewer) whole))
+      (subst (λ (n : Next Ideal IdealEnd). IsWholeState (state_of n)) is (steps-whole layout (from_entries fewer) state (entries-give fewer) whole))
       (subst (λ (n : Next Ideal IdealEnd). IsTrue (is_secure (state_of n).mode)) is (mode-secure layout (from_entries fewer) state secure)) agrees_after)
 
 pub runs-loosen : RunsLoosen

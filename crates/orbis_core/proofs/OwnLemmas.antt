@@ -27,9 +27,9 @@ use Rattle.orbis_core.specs.Ideal.{Ideal, IdealEnd, Refused, carried, effect_at,
 use Rattle.orbis_core.specs.OwnMemory.{Answers, HasInput, Own, OwnLoad, OwnStore, OwnStepIsIdeal, comes_to, ideal_of, own_accesses}
 use Rattle.orbis_core.specs.Processor.{Processor, advanced, register, written}
 use Rattle.orbis_core.specs.Refusals.{answered, word_refusal, byte_refusal}
-use Rattle.orbis_core.specs.Rows.{Machine, Carries, Executes, GoesOn, IsNoStop, Leaves, Steps, core_loaded, core_stored, end_after}
+use Rattle.orbis_core.specs.Rows.{Machine, Carries, Executes, GoesOnAfter, IsNoStop, Leaves, Steps, core_loaded, core_stored, end_after}
 use Rattle.orbis_core.specs.Secure.{secure_of, secure_end, secure_core, secure_port, port_read}
-use Rattle.orbis_core.specs.Secure.{input_word as port_word}
+use Rattle.orbis_core.specs.Secure.{port_word}
 
 -- ---- input
 
@@ -260,13 +260,13 @@ module _ (old new : Machine Own) (ended : StepEnd) (input : HasInput old.port ol
       → Facts (effect_at from) (unless r from (executed layout old.memory.outside (instruction_in (old.memory.memory old.core.pc)) from))
   step-case (Some reason) is step =
       let answer : step.answer ≡ Err (stop.Refused reason) = step.fetched.0 ∙ ap (λ r. answered r (old.memory.memory old.core.pc)) (sym is) in
-      let P : Result ℕ Stop → Type 0 = λ answer. GoesOn own_accesses answer (record old { memory = step.middle }) ended new in
+      let P : Result ℕ Stop → Type 0 = λ answer. GoesOnAfter own_accesses answer (record old { memory = step.middle }) ended new in
       let row = subst P answer step.goes_on in
       stopped (effect_at from) reason row.ends (row.memory ∙ step.fetched.1) row.port
   step-case None is step =
       let answer : step.answer ≡ Ok (old.memory.memory old.core.pc) = step.fetched.0 ∙ ap (λ r. answered r (old.memory.memory old.core.pc)) (sym is) in
-      let P : Result ℕ Stop → Type 0 = λ answer. GoesOn own_accesses answer (record old { memory = step.middle }) ended new in
-      let Q : Own → Type 0 = λ m. GoesOn own_accesses (Ok (old.memory.memory old.core.pc)) (record old { memory = m }) ended new in
+      let P : Result ℕ Stop → Type 0 = λ answer. GoesOnAfter own_accesses answer (record old { memory = step.middle }) ended new in
+      let Q : Own → Type 0 = λ m. GoesOnAfter own_accesses (Ok (old.memory.memory old.core.pc)) (record old { memory = m }) ended new in
       word-case (instruction_in (old.memory.memory old.core.pc)) (subst Q step.fetched.1 (subst P answer step.goes_on))
 
   pub step-facts : Steps own_accesses old ended new → Facts (effect_at from) (machine_step layout old.memory.outside from)

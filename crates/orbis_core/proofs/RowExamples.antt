@@ -17,7 +17,7 @@ jumps = (refl, refl, refl)
 branches : (effect_of (Bf (pos 3)) core ≡ Jump 0x10c) × (effect_of (Bnf (pos 3)) core ≡ Proceed)
 branches = (refl, refl)
 
--- the link is the address behind the instruction, and register 0 takes no write
+-- the link is the address after the instruction, and register 0 takes no write
 links : (register (core_after (Link 0x10c) core) 9 ≡ 0x104) × (register (core_after (Write 0 5) core) 0 ≡ 0) × (register (core_after (Write 4 5) core) 4 ≡ 5)
 links = (refl, refl, refl)
 

@@ -32,7 +32,7 @@ use Rattle.orbis_core.specs.declared.memory.Why.TheVariants as why
 use Rattle.orbis_core.specs.ByteOrder.{byte_in, updated, with_byte, word_start, words_in}
 use Rattle.orbis_core.specs.Effects.{branch, effect_of, operate, target}
 use Rattle.orbis_core.specs.Ideal.{Ideal, IdealEnd, Outside, Refused, carried, executed, from_entries, ideal_start, instruction_at, is_among, loaded, machine_step, memory_stored, secured, taken, unless}
-use Rattle.orbis_core.specs.IdealLaws.{GivesWords, IsWhole, StatesAreWhole, StepsKeepWhole}
+use Rattle.orbis_core.specs.IdealLaws.{GivesWords, IsWholeState, StatesAreWhole, StepsKeepWhole}
 use Rattle.orbis_core.specs.Processor.{Processor, advanced, next_pc, register, registers_with, with_register, written}
 use Rattle.orbis_core.specs.Refusals.{word_refusal, byte_refusal}
 use Rattle.orbis_core.specs.Secure.{secure_of}
@@ -174,10 +174,10 @@ registers-with registers n value has fits = go (n == 0) refl
           below = λ k. set-small registers n value k has.below fits;
         }
 
-of-state : (state : Ideal) → IsWhole state → HasRegisters state.core.registers
+of-state : (state : Ideal) → IsWholeState state → HasRegisters state.core.registers
 of-state state whole = record { count = whole.registers; zero_reads = whole.zero; below = whole.small }
 
-to-state : (state : Ideal) → HasRegisters state.core.registers → state.core.pc < 2 ^ 32 → ((at : ℕ) → state.memory at < 2 ^ 32) → IsWhole state
+to-state : (state : Ideal) → HasRegisters state.core.registers → state.core.pc < 2 ^ 32 → ((at : ℕ) → state.memory at < 2 ^ 32) → IsWholeState state
 to-state state has pc words = record { registers = has.count; zero = has.zero_reads; small = has.below; pc = pc; words = words }
 
 next-small : (core : Processor) → next_pc core < 2 ^ 32
@@ -212,9 +212,9 @@ updated-small memory at word small fits other = go (other == at)
 -- ---- steps
 
 abbrev IsWholeNext : Next Ideal IdealEnd → Type 0
-IsWholeNext next = IsWhole (state_of next)
+IsWholeNext next = IsWholeState (state_of next)
 
-module _ (layout : Layout) (outside : Outside) (state : Ideal) (gives : GivesWords outside) (whole : IsWhole state) where
+module _ (layout : Layout) (outside : Outside) (state : Ideal) (gives : GivesWords outside) (whole : IsWholeState state) where
   unless-whole : (r : Option Why) (next : Next Ideal IdealEnd) → IsWholeNext next → IsWholeNext (unless r state next)
   unless-whole None next later = later
   unless-whole (Some reason) next later = whole
@@ -229,7 +229,7 @@ module _ (layout : Layout) (outside : Outside) (state : Ideal) (gives : GivesWor
   loads-whole true d word (Some w) fits came_fits = loaded-whole d w _ came_fits
 
   stored-whole : (at value word : ℕ) → word < 2 ^ 32 → (t : Traffic ℕ)
-      → IsWhole (record state { core = advanced state.core; memory = memory_stored layout outside.is_loose at word state.memory; traffic = t })
+      → IsWholeState (record state { core = advanced state.core; memory = memory_stored layout outside.is_loose at word state.memory; traffic = t })
   stored-whole at value word fits t = to-state _ (of-state state whole) (next-small state.core) (λ other. go (is_among outside.is_loose layout at) other)
     where
       go : (free : Bool) (other : ℕ) → (if free then state.memory else updated state.memory (word_start at) word) other < 2 ^ 32
@@ -240,7 +240,7 @@ module _ (layout : Layout) (outside : Outside) (state : Ideal) (gives : GivesWor
   input-small [] = omega arith
   input-small (byte ∷ bytes) = omega arith
 
-  advanced-whole : (t : Traffic ℕ) → IsWhole (record state { core = advanced state.core; traffic = t })
+  advanced-whole : (t : Traffic ℕ) → IsWholeState (record state { core = advanced state.core; traffic = t })
   advanced-whole t = to-state _ (of-state state whole) (next-small state.core) whole.words
 
   secured-whole : (asked : SecureInstruction) → IsWholeNext (secured asked state)
@@ -322,7 +322,7 @@ zeros-small (suc count) zero = omega arith
 zeros-small (suc count) (suc n) = zeros-small count n
 
 start-whole : (layout : Layout) (statics : List ℕ) (entry : ℕ) (input : List ℕ) (words : List (Entry ℕ)) → AllByRecursion (λ byte. byte < 2 ^ 8) statics → entry < 16 * layout.code
-    → IsWhole (ideal_start layout statics entry input words)
+    → IsWholeState (ideal_start layout statics entry input words)
 start-whole layout statics entry input words small within = record {
   registers = refl;
   zero = refl;
@@ -337,5 +337,5 @@ start-whole layout statics entry input words small within = record {
 
 pub states-whole : StatesAreWhole
 states-whole layout loose statics entry input words steps small within =
-    run-keeps (machine_step layout (from_entries loose)) IsWhole (λ state whole. steps-whole layout (from_entries loose) state (entries-give loose) whole) steps (ideal_start layout statics entry input words)
+    run-keeps (machine_step layout (from_entries loose)) IsWholeState (λ state whole. steps-whole layout (from_entries loose) state (entries-give loose) whole) steps (ideal_start layout statics entry input words)
     (start-whole layout statics entry input words small within)

@@ -2,6 +2,7 @@
 use Rattle.std.specs.Prelude.{◌≡◌, ℕ, ◌*◌, ◌+◌, ◌%◌, ◌^◌, ◌<◌, ◌⊎◌, IsTrue, List, Option, Some, IsSome, length, slice_index}
 use Rattle.execution.specs.Run.{Next, Stops}
 use Rattle.execution.specs.Traffic.{Entry, Traffic, after_input}
+use Rattle.regions.specs.declared.addresses.TheConstants.{BLOCK_BYTES}
 use Rattle.regions.specs.declared.Layout.{Layout}
 use Rattle.regions.specs.declared.Class.TheVariants.{Private}
 use Rattle.regions.specs.declared.Mode.TheVariants.{Std, Te}
@@ -14,7 +15,7 @@ use Rattle.orbis_core.specs.declared.memory.Why.TheVariants.{Rights}
 use Rattle.orbis_core.specs.declared.port.Port.{Port}
 use Rattle.orbis_core.specs.declared.stepping.StepEnd.{StepEnd}
 use Rattle.orbis_core.specs.declared.stepping.StepEnd.TheVariants.{Input}
-use Rattle.orbis_core.specs.FlatMemory.{Flat, flat_accesses, flat_of, word_at, word_count}
+use Rattle.orbis_core.specs.FlatMemory.{Flat, flat_accesses, flat_of, flat_word, word_count}
 use Rattle.orbis_core.specs.Ideal.{Ideal, IdealEnd, Refused, accessed_at, effect_at, entry_address, ideal_start, ideal_step, traffic_stored}
 use Rattle.orbis_core.specs.OwnMemory.{Answers, HasInput}
 use Rattle.orbis_core.specs.Processor.{reset_core}
@@ -23,7 +24,7 @@ use Rattle.orbis_core.specs.Rows.{IsNoStop, Machine, Steps}
 -- the flat memory has all its words, and each of them is that of the ideal machine at its address
 pub record HasWords (flat : Flat) (memory : ℕ → ℕ) : Type 0 where
   pub whole : length flat.words ≡ word_count flat.layout
-  pub each : (at : ℕ) → at % 4 ≡ 0 → IsSome (class_at flat.layout at) → memory at ≡ word_at flat at
+  pub each : (at : ℕ) → at % 4 ≡ 0 → IsSome (class_at flat.layout at) → memory at ≡ flat_word flat at
 
 -- both machines are at the same place
 pub record IsTied (machine : Machine Flat) (state : Ideal) : Type 0 where
@@ -74,5 +75,5 @@ pub record StartsTied (layout : Layout) (statics : List ℕ) (entry : ℕ) (port
 
 abbrev pub FlatStartIsIdeal : Type 0
 FlatStartIsIdeal =
-    (layout : Layout) (statics : List ℕ) (entry : ℕ) (port : Port) (loose : List (Entry ℕ)) → length statics ≡ 64 * (layout.constants + layout.code) → port.next ≡ 0 →
+    (layout : Layout) (statics : List ℕ) (entry : ℕ) (port : Port) (loose : List (Entry ℕ)) → length statics ≡ BLOCK_BYTES * (layout.constants + layout.code) → port.next ≡ 0 →
     ((k : ℕ) → slice_index port.input.now k < 2 ^ 8) → StartsTied layout statics entry port loose

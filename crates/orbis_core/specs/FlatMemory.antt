@@ -37,8 +37,8 @@ index_of layout at =
     else (if nat_lt at LOG_START then open_words + (at - TREE_START) / 4 else open_words + block_words * data_blocks layout + (at - LOG_START) / 4)
 
 -- the word that an address lies in
-abbrev pub word_at : Flat → ℕ → ℕ
-word_at memory at = slice_index memory.words (index_of memory.layout at)
+abbrev pub flat_word : Flat → ℕ → ℕ
+flat_word memory at = slice_index memory.words (index_of memory.layout at)
 
 -- the memory with another word there
 abbrev pub put : Flat → ℕ → ℕ → Flat
@@ -55,11 +55,11 @@ flat_of layout statics = record {
 
 -- a word is fetched or loaded, and nothing changes
 abbrev pub ReadsWord : Mode → Access → Flat → ℕ → Result ℕ Stop → Flat → Type 0
-ReadsWord mode access old at answer new = (answer ≡ answered (word_refusal old.layout mode access at) (word_at old at)) × (new ≡ old)
+ReadsWord mode access old at answer new = (answer ≡ answered (word_refusal old.layout mode access at) (flat_word old at)) × (new ≡ old)
 
 -- a byte is loaded, and nothing changes
 abbrev pub ReadsByte : Mode → Flat → ℕ → Result ℕ Stop → Flat → Type 0
-ReadsByte mode old at answer new = (answer ≡ answered (byte_refusal old.layout mode Read at) (byte_in (word_at old at) at)) × (new ≡ old)
+ReadsByte mode old at answer new = (answer ≡ answered (byte_refusal old.layout mode Read at) (byte_in (flat_word old at) at)) × (new ≡ old)
 
 -- a word is stored, and no other word changes; nothing does where it is refused
 abbrev pub WritesWord : Mode → Flat → ℕ → ℕ → Result (Unit {0}) Stop → Flat → Type 0
@@ -70,7 +70,7 @@ WritesWord mode old at word answer new =
 abbrev pub WritesByte : Mode → Flat → ℕ → ℕ → Result (Unit {0}) Stop → Flat → Type 0
 WritesByte mode old at byte answer new =
     (answer ≡ answered (byte_refusal old.layout mode Write at) tt)
-    × (new ≡ unless_refused (byte_refusal old.layout mode Write at) old (put old at (with_byte (word_at old at) at byte)))
+    × (new ≡ unless_refused (byte_refusal old.layout mode Write at) old (put old at (with_byte (flat_word old at) at byte)))
 
 -- what the five calls do
 abbrev pub flat_accesses_in : Mode → Accesses Flat

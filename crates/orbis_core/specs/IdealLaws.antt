@@ -65,7 +65,7 @@ ClassIsOfWord = (layout : Layout) (at : ℕ) → class_at layout (word_start at)
 -- ---- states
 
 -- there are 32 registers, of which register 0 is zero, and the registers, the program counter and the words are below 2 ^ 32
-pub record IsWhole (state : Ideal) : Type 0 where
+pub record IsWholeState (state : Ideal) : Type 0 where
   pub registers : length state.core.registers ≡ 32
   pub zero : register state.core 0 ≡ 0
   pub small : (n : ℕ) → register state.core n < 2 ^ 32
@@ -79,10 +79,10 @@ pub record GivesWords (outside : Outside) : Type 0 where
 
 -- each step keeps that
 abbrev pub StepsKeepWhole : Type 0
-StepsKeepWhole = (layout : Layout) (outside : Outside) (state : Ideal) → GivesWords outside → IsWhole state → IsWhole (state_of (machine_step layout outside state))
+StepsKeepWhole = (layout : Layout) (outside : Outside) (state : Ideal) → GivesWords outside → IsWholeState state → IsWholeState (state_of (machine_step layout outside state))
 
 -- so that each state of a run on bytes is so
 abbrev pub StatesAreWhole : Type 0
 StatesAreWhole =
     (layout : Layout) (loose : Class → Bool) (statics : List ℕ) (entry : ℕ) (input : List ℕ) (words : List (Entry ℕ)) (steps : ℕ) →
-    AllByRecursion (λ byte. byte < 2 ^ 8) statics → entry < 16 * layout.code → IsWhole (state_of (ideal_run layout loose statics entry input words steps))
+    AllByRecursion (λ byte. byte < 2 ^ 8) statics → entry < 16 * layout.code → IsWholeState (state_of (ideal_run layout loose statics entry input words steps))

@@ -8,7 +8,7 @@ use Rattle.regions.specs.declared.Class.TheVariants.{Code}
 use Rattle.regions.specs.LooseClasses.{AreAmong}
 use Rattle.regions.specs.Modes.{is_secure}
 use Rattle.orbis_core.specs.Ideal.{Ideal, IdealEnd, ideal_step, is_among}
-use Rattle.orbis_core.specs.IdealLaws.{IsWhole}
+use Rattle.orbis_core.specs.IdealLaws.{IsWholeState}
 
 -- the machine with this memory, these loose words to come, and so many that it took
 abbrev pub loosened : (ℕ → ℕ) → List (Entry ℕ) → ℕ → Ideal → Ideal
@@ -36,6 +36,6 @@ ComesLoosened layout classes (Stops end state) (Goes other) = ⊥
 abbrev pub RunsLoosen : Type 0
 RunsLoosen =
     (layout : Layout) (fewer more : Class → Bool) → AreAmong fewer more → more Code ≡ false →
-    (steps : ℕ) (state : Ideal) (memory : ℕ → ℕ) (taken : ℕ) → IsWhole state → IsTrue (is_secure state.mode) → AgreesOutside layout more state.memory memory →
+    (steps : ℕ) (state : Ideal) (memory : ℕ → ℕ) (taken : ℕ) → IsWholeState state → IsTrue (is_secure state.mode) → AgreesOutside layout more state.memory memory →
     (words : List (Entry ℕ))
     × ComesLoosened layout more (run (ideal_step layout fewer) steps state) (run (ideal_step layout more) steps (loosened memory words taken state))

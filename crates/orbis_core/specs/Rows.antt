@@ -83,16 +83,16 @@ Executes accesses (Some instruction) old end new = Carries accesses (effect_of i
 Executes accesses None old end new = IsStopped (Refused Illegal) old end new
 
 -- after a fetch: what the word says, or the stop of the memory
-abbrev pub GoesOn : {M : Type 0} → Accesses M → Result ℕ Stop → Machine M → StepEnd → Machine M → Type 0
-GoesOn accesses (Ok word) old end new = Executes accesses (instruction_in word) old end new
-GoesOn accesses (Err stop) old end new = IsStopped stop old end new
+abbrev pub GoesOnAfter : {M : Type 0} → Accesses M → Result ℕ Stop → Machine M → StepEnd → Machine M → Type 0
+GoesOnAfter accesses (Ok word) old end new = Executes accesses (instruction_in word) old end new
+GoesOnAfter accesses (Err stop) old end new = IsStopped stop old end new
 
 -- one step: the fetch at the program counter, and what its answer says, from the memory that the fetch left
 pub record Steps {M : Type 0} (accesses : Accesses M) (old : Machine M) (end : StepEnd) (new : Machine M) : Type 0 where
   pub answer : Result ℕ Stop
   pub middle : M
   pub fetched : accesses.fetch old.memory old.core.pc answer middle
-  pub goes_on : GoesOn accesses answer (record old { memory = middle }) end new
+  pub goes_on : GoesOnAfter accesses answer (record old { memory = middle }) end new
 
 -- where a step is stopped, the processor and the port are as they were
 abbrev pub StopsUnchanged : {M : Type 0} → Machine M → StepEnd → Machine M → Type 0

@@ -12,8 +12,8 @@ secure_of f =
     slice_index_or (Enter ∷ Exit ∷ Suspend ∷ Resume ∷ PrivateOn ∷ PrivateOff ∷ Release ∷ Input ∷ Check ∷ IndexTrap ∷ DivideTrap ∷ []) f Exit
 
 -- the word that is read from a port: the next byte, or -1 after the last one
-abbrev pub input_word : Port → ℕ
-input_word port = if nat_lt port.next (length port.input.now) then slice_index port.input.now port.next else 2 ^ 32 - 1
+abbrev pub port_word : Port → ℕ
+port_word port = if nat_lt port.next (length port.input.now) then slice_index port.input.now port.next else 2 ^ 32 - 1
 
 -- the port after that
 abbrev pub port_read : Port → Port
@@ -35,7 +35,7 @@ secure_end DivideTrap core = end.Divide (register core 3)
 
 -- the processor after it: the input goes to register 11, and nothing else is written
 abbrev pub secure_core : SecureInstruction → Port → Processor → Processor
-secure_core Input port core = written core 11 (input_word port)
+secure_core Input port core = written core 11 (port_word port)
 secure_core instruction port core = advanced core
 
 -- the port after it

@@ -1,6 +1,6 @@
 //! The port that the input instruction reads.
 ghost use Rattle.std.specs.Prelude.{◌≡◌, ◌≤◌, length};
-ghost use Rattle.orbis_core.specs.Secure.{input_word, port_read};
+ghost use Rattle.orbis_core.specs.Secure.{port_word, port_read};
 
 /// Input bytes, and how far they are read.
 #[derive(Clone, Copy, Debug)]
@@ -14,7 +14,7 @@ pub struct Port<'a> {
 impl Port<'_> {
     /// The next byte, or -1 after the last one.
     pub(crate) fn read(&mut self) -> u32
-        ensures word { result ≡ input_word self.old }
+        ensures word { result ≡ port_word self.old }
         ensures port { self.new ≡ port_read self.old }
         ensures within { self.old.next ≤ length self.old.input.now
             → self.new.next ≤ length self.new.input.now }

@@ -2,33 +2,33 @@
 use Rattle.std.proofs.Common.{◌≡◌, pos, negsuc, refl, codes}
 use Rattle.std.specs.Fmt.{digits}
 use Rattle.orbis_word.specs.declared.instruction.Instr.TheVariants.{J, Bnf, Nop, Jr, Cust1, Lbz, Addi, Andi, Sw, Sub, Sfne}
-use Rattle.orbis_word.specs.Table.{word_of}
+use Rattle.orbis_word.specs.Table.{encoding}
 use Rattle.orbis_word.specs.Printing.{instruction_text, hex_8}
 
-word_of-addi : word_of (Addi 3 0 (pos 72)) ≡ 0x9c600048
-word_of-addi = refl
+encoding-addi : encoding (Addi 3 0 (pos 72)) ≡ 0x9c600048
+encoding-addi = refl
 
-word_of-jr : word_of (Jr 9) ≡ 0x44004800
-word_of-jr = refl
+encoding-jr : encoding (Jr 9) ≡ 0x44004800
+encoding-jr = refl
 
-word_of-sw : word_of (Sw (negsuc 3) 1 9) ≡ 0xd7e14ffc
-word_of-sw = refl
+encoding-sw : encoding (Sw (negsuc 3) 1 9) ≡ 0xd7e14ffc
+encoding-sw = refl
 
-word_of-nop : word_of (Nop 0) ≡ 0x15000000
-word_of-nop = refl
+encoding-nop : encoding (Nop 0) ≡ 0x15000000
+encoding-nop = refl
 
-word_of-sub : word_of (Sub 3 4 5) ≡ 0xe0642802
-word_of-sub = refl
+encoding-sub : encoding (Sub 3 4 5) ≡ 0xe0642802
+encoding-sub = refl
 
-word_of-exit : word_of (Cust1 1) ≡ 0x70000001
-word_of-exit = refl
+encoding-exit : encoding (Cust1 1) ≡ 0x70000001
+encoding-exit = refl
 
-word_of-resume : word_of (Cust1 3) ≡ 0x70000003
-word_of-resume = refl
+encoding-resume : encoding (Cust1 3) ≡ 0x70000003
+encoding-resume = refl
 
 -- one word back
-word_of-back : word_of (J (negsuc 0)) ≡ 0x03ffffff
-word_of-back = refl
+encoding-back : encoding (J (negsuc 0)) ≡ 0x03ffffff
+encoding-back = refl
 
 text-addi : instruction_text (Addi 3 0 (pos 72)) ≡ codes "l.addi r3,r0,72"
 unfolding digits

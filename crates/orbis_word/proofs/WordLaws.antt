@@ -6,7 +6,7 @@ use Rattle.orbis_word.specs.declared.fields.Fields.TheVariants.{N, K, Dk, B, F, 
 use Rattle.orbis_word.specs.declared.instruction.Instr.{Instr}
 use Rattle.orbis_word.specs.declared.instruction.Instr.TheVariants.{J}
 use Rattle.orbis_word.specs.Fields.{complement, FitsComplement, placed, AreInRange}
-use Rattle.orbis_word.specs.Table.{word_of, row_of, fixed_of, IsInRange}
+use Rattle.orbis_word.specs.Table.{encoding, table_row, fixed_of, IsInRange}
 use Rattle.orbis_word.specs.Decoding.{IsNoWord}
 use Rattle.orbis_word.specs.Reading.{signed, secure, fields_in, instructions_with, with_fixed, instruction_in}
 
@@ -41,17 +41,17 @@ taken (Dab d a b) fixed = fixed % 2 ^ 26 / 2 ^ 11
 taken (Ab a b) fixed = fixed % 2 ^ 21 / 2 ^ 11
 
 -- no row has a fixed bit where a field stands
-none_taken : (i : Instr) → taken (row_of i).fields (fixed_of i) ≡ 0
+none_taken : (i : Instr) → taken (table_row i).fields (fixed_of i) ≡ 0
 none_taken (J n) = refl
 none_taken _ = refl
 
 -- the layout of each row is that of its opcode
-same_layout : (i : Instr) (word : ℕ) → fields_in (fixed_of i / 2 ^ 26) word ≡ reading (row_of i).fields word
+same_layout : (i : Instr) (word : ℕ) → fields_in (fixed_of i / 2 ^ 26) word ≡ reading (table_row i).fields word
 same_layout (J n) word = refl
 same_layout _ word = refl
 
 -- each row is the first with its fixed bits among those of its layout
-own_row : (i : Instr) → with_fixed (fixed_of i) (instructions_with (row_of i).fields) ≡ Some i
+own_row : (i : Instr) → with_fixed (fixed_of i) (instructions_with (table_row i).fields) ≡ Some i
 own_row (J n) = refl
 own_row _ = refl
 
@@ -136,40 +136,40 @@ opcode-placed fixed (Iab i a b) r free = let below : complement 16 i < 2 ^ 16 = 
 opcode-placed fixed _ r free = omega arith
 
 -- the word of an instruction has its fields
-pub fields_in-word_of : (i : Instr) → IsInRange i → fields_in (word_of i / 2 ^ 26) (word_of i) ≡ Some (row_of i).fields
-fields_in-word_of i r =
-    let free : taken (row_of i).fields (fixed_of i) ≡ 0 = none_taken i in
-    let opcode : word_of i / 2 ^ 26 ≡ fixed_of i / 2 ^ 26 = opcode-placed (fixed_of i) (row_of i).fields r free in
-    ap (λ opcode. fields_in opcode (word_of i)) opcode ∙ same_layout i (word_of i) ∙ placed-read (fixed_of i) (row_of i).fields r free
+pub fields_in-encoding : (i : Instr) → IsInRange i → fields_in (encoding i / 2 ^ 26) (encoding i) ≡ Some (table_row i).fields
+fields_in-encoding i r =
+    let free : taken (table_row i).fields (fixed_of i) ≡ 0 = none_taken i in
+    let opcode : encoding i / 2 ^ 26 ≡ fixed_of i / 2 ^ 26 = opcode-placed (fixed_of i) (table_row i).fields r free in
+    ap (λ opcode. fields_in opcode (encoding i)) opcode ∙ same_layout i (encoding i) ∙ placed-read (fixed_of i) (table_row i).fields r free
 
 -- a word with these fields is the word of the first row with its other bits, and of no other
-pub row-word_of : (word : ℕ) (fields : Fields) → fields_in (word / 2 ^ 26) word ≡ Some fields
-    → (i : Instr) → IsInRange i → word ≡ word_of i → with_fixed (word - placed fields) (instructions_with fields) ≡ Some i
-row-word_of word fields read i r e =
-    let whole : fields_in (word / 2 ^ 26) word ≡ Some (row_of i).fields = ap (λ w. fields_in (w / 2 ^ 26) w) e ∙ fields_in-word_of i r in
-    let same : fields ≡ (row_of i).fields = cc in
-    let rest : fixed_of i + placed (row_of i).fields - placed (row_of i).fields ≡ fixed_of i = omega arith in
+pub row-encoding : (word : ℕ) (fields : Fields) → fields_in (word / 2 ^ 26) word ≡ Some fields
+    → (i : Instr) → IsInRange i → word ≡ encoding i → with_fixed (word - placed fields) (instructions_with fields) ≡ Some i
+row-encoding word fields read i r e =
+    let whole : fields_in (word / 2 ^ 26) word ≡ Some (table_row i).fields = ap (λ w. fields_in (w / 2 ^ 26) w) e ∙ fields_in-encoding i r in
+    let same : fields ≡ (table_row i).fields = cc in
+    let rest : fixed_of i + placed (table_row i).fields - placed (table_row i).fields ≡ fixed_of i = omega arith in
     rw (same, e, rest) (own_row i)
 
 -- the word of an instruction is read as this instruction
-pub instruction_in-word_of : (i : Instr) → IsInRange i → instruction_in (word_of i) ≡ Some i
+pub instruction_in-encoding : (i : Instr) → IsInRange i → instruction_in (encoding i) ≡ Some i
 unfolding instruction_in
-instruction_in-word_of i r = rw (fields_in-word_of i r) (row-word_of (word_of i) (row_of i).fields (fields_in-word_of i r) i r refl)
+instruction_in-encoding i r = rw (fields_in-encoding i r) (row-encoding (encoding i) (table_row i).fields (fields_in-encoding i r) i r refl)
 
 -- where that finds no row, the word is that of no instruction
 pub no_row : (word bits : ℕ) (fields : Fields) (result : Option Instr) → Some fields ≡ fields_in (word / 2 ^ 26) word → bits ≡ placed fields
     → result ≡ with_fixed (word - bits) (instructions_with fields) → IfNone result (IsNoWord word)
 no_row word bits fields None read place none = λ i r e.
-    let there : with_fixed (word - placed fields) (instructions_with fields) ≡ Some i = row-word_of word fields (sym read) i r e in
+    let there : with_fixed (word - placed fields) (instructions_with fields) ≡ Some i = row-encoding word fields (sym read) i r e in
     let none_there : None ≡ with_fixed (word - placed fields) (instructions_with fields) = rw (← place) none in
     cc (none_there ∙ there)
 no_row word bits fields (Some i) read place some = tt
 
 -- two instructions with one word are one
-pub words-apart : (i j : Instr) → IsInRange i → IsInRange j → word_of i ≡ word_of j → i ≡ j
+pub words-apart : (i j : Instr) → IsInRange i → IsInRange j → encoding i ≡ encoding j → i ≡ j
 words-apart i j p q e =
-    let one : with_fixed (word_of i - placed (row_of i).fields) (instructions_with (row_of i).fields) ≡ Some i =
-    row-word_of (word_of i) (row_of i).fields (fields_in-word_of i p) i p refl in
-    let other : with_fixed (word_of i - placed (row_of i).fields) (instructions_with (row_of i).fields) ≡ Some j =
-    row-word_of (word_of i) (row_of i).fields (fields_in-word_of i p) j q e in
+    let one : with_fixed (encoding i - placed (table_row i).fields) (instructions_with (table_row i).fields) ≡ Some i =
+    row-encoding (encoding i) (table_row i).fields (fields_in-encoding i p) i p refl in
+    let other : with_fixed (encoding i - placed (table_row i).fields) (instructions_with (table_row i).fields) ≡ Some j =
+    row-encoding (encoding i) (table_row i).fields (fields_in-encoding i p) j q e in
     cc

@@ -1,4 +1,4 @@
--- The fields of an instruction: their places in the word and their ranges (OpenRISC 1000 Architecture Manual, section 5).
+-- Promise: the fields of an instruction: their places in the word and their ranges (OpenRISC 1000 Architecture Manual, section 5).
 use Rattle.std.specs.Prelude.{ℕ, ◌+◌, ◌-◌, ◌*◌, ◌/◌, ◌%◌, ◌^◌, ◌<◌, ◌≤◌, ℤ, pos, negsuc}
 use Rattle.orbis_word.specs.declared.fields.Fields.{Fields}
 use Rattle.orbis_word.specs.declared.fields.Fields.TheVariants.{N, K, Dk, B, F, Dia, Dai, Dak, Dal, Iab, Dab, Ab}

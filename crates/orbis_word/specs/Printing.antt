@@ -1,38 +1,38 @@
--- The text of instructions, and the listing of code.
+-- Promise: the text of instructions, and the listing of code.
 use Rattle.std.specs.Prelude.{◌≡◌, ◌⊎◌, ℕ, ◌+◌, ◌-◌, List, [], ◌∷◌, ◌++◌, length, replicate, codes, false}
 use Rattle.std.specs.Fmt.{digits, decimal, signed_decimal}
 use Rattle.orbis_word.specs.declared.fields.Fields.{Fields}
 use Rattle.orbis_word.specs.declared.fields.Fields.TheVariants.{N, K, Dk, B, F, Dia, Dai, Dak, Dal, Iab, Dab, Ab}
 use Rattle.orbis_word.specs.declared.instruction.Instr.{Instr}
-use Rattle.orbis_word.specs.Table.{row_of}
+use Rattle.orbis_word.specs.Table.{table_row}
 use Rattle.orbis_word.specs.Decoding.{IsWordOf, IsNoWord}
 
 -- a register: `r` and its number
-abbrev pub register : ℕ → List ℕ
-register number = codes "r" ++ decimal number
+abbrev pub register_text : ℕ → List ℕ
+register_text number = codes "r" ++ decimal number
 
 -- an offset and the register that it is added to: I(A)
-abbrev pub address : List ℕ → ℕ → List ℕ
-address offset a = offset ++ codes "(" ++ register a ++ codes ")"
+abbrev pub address_text : List ℕ → ℕ → List ℕ
+address_text offset a = offset ++ codes "(" ++ register_text a ++ codes ")"
 
 -- the fields as they are spelled, with signs where they have one
 abbrev pub fields_text : Fields → List ℕ
 fields_text (N n) = signed_decimal n
 fields_text (K k) = decimal k
-fields_text (Dk d k) = register d ++ codes "," ++ decimal k
-fields_text (B b) = register b
+fields_text (Dk d k) = register_text d ++ codes "," ++ decimal k
+fields_text (B b) = register_text b
 fields_text (F f) = decimal f
-fields_text (Dia d i a) = register d ++ codes "," ++ address (signed_decimal i) a
-fields_text (Dai d a i) = register d ++ codes "," ++ register a ++ codes "," ++ signed_decimal i
-fields_text (Dak d a k) = register d ++ codes "," ++ register a ++ codes "," ++ decimal k
-fields_text (Dal d a l) = register d ++ codes "," ++ register a ++ codes "," ++ decimal l
-fields_text (Iab i a b) = address (signed_decimal i) a ++ codes "," ++ register b
-fields_text (Dab d a b) = register d ++ codes "," ++ register a ++ codes "," ++ register b
-fields_text (Ab a b) = register a ++ codes "," ++ register b
+fields_text (Dia d i a) = register_text d ++ codes "," ++ address_text (signed_decimal i) a
+fields_text (Dai d a i) = register_text d ++ codes "," ++ register_text a ++ codes "," ++ signed_decimal i
+fields_text (Dak d a k) = register_text d ++ codes "," ++ register_text a ++ codes "," ++ decimal k
+fields_text (Dal d a l) = register_text d ++ codes "," ++ register_text a ++ codes "," ++ decimal l
+fields_text (Iab i a b) = address_text (signed_decimal i) a ++ codes "," ++ register_text b
+fields_text (Dab d a b) = register_text d ++ codes "," ++ register_text a ++ codes "," ++ register_text b
+fields_text (Ab a b) = register_text a ++ codes "," ++ register_text b
 
 -- an instruction: the name of its row, a blank and its fields
 abbrev pub instruction_text : Instr → List ℕ
-instruction_text instruction = (row_of instruction).name ++ codes " " ++ fields_text (row_of instruction).fields
+instruction_text instruction = (table_row instruction).name ++ codes " " ++ fields_text (table_row instruction).fields
 
 -- a number in eight hexadecimal digits
 abbrev pub hex_8 : ℕ → List ℕ

@@ -1,5 +1,4 @@
--- Reading a word by the layout of its opcode, and finding the row with the bits that are left.
--- The laws of `WordLaws.antt` say that this undoes `word_of`, and the clauses of `decode` that it gives each word its instruction.
+-- Promise: reading a word by the layout of its opcode, and finding the row with the bits that are left.
 use Rattle.std.specs.Prelude.{ℕ, ◌+◌, ◌-◌, ◌*◌, ◌/◌, ◌%◌, ◌^◌, ◌==◌, nat_lt, nat_le, cond, List, [], ◌∷◌, Option, None, Some, option_and_then, ℤ, pos, negsuc}
 use Rattle.orbis_word.specs.declared.fields.Fields.{Fields}
 use Rattle.orbis_word.specs.declared.fields.Fields.TheVariants.{N, K, Dk, B, F, Dia, Dai, Dak, Dal, Iab, Dab, Ab}
@@ -12,7 +11,7 @@ use Rattle.orbis_word.specs.Table.{fixed_of}
 unfoldable pub signed : ℕ → ℕ → ℤ
 signed width bits = cond (nat_lt bits (2 ^ (width - 1))) (pos bits) (negsuc (2 ^ width - (bits + 1)))
 
--- the fields behind the first of these opcodes that is the wanted one
+-- the fields next to the first of these opcodes that is the wanted one
 abbrev pub at_opcode : ℕ → List (ℕ × Fields) → Option Fields
 at_opcode opcode [] = None
 at_opcode opcode (row ∷ rows) = cond (row.0 == opcode) (Some row.1) (at_opcode opcode rows)

@@ -14,7 +14,7 @@ pub fn decode(word: u32) -> Option<Instr>
     ensures found { IfSome result (IsWordOf word) }
     ensures none { IfNone result (IsNoWord word) }
 
-    // The same as a function, for definitions of what words do.
+    // As a function, for definitions of what words do.
     ensures value { result ≡ instruction_in word }
 {
     match Fields::read(word) {

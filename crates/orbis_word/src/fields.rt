@@ -140,7 +140,7 @@ fn joined(upper: u8, lower: u16) -> i16
     immediate_in((u16::from(upper) << 11) + lower)
 }
 
-/// The bits of I, where it stands behind the registers.
+/// The bits of I, where it stands after the registers.
 fn immediate(i: i16) -> u32
     ensures { result ≡ complement 16 i }
 {

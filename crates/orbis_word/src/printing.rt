@@ -6,7 +6,7 @@ ghost use Rattle.orbis_word.specs.Printing.{fields_text, instruction_text, hex_8
 use crate::decoding::decode;
 use crate::fields::Fields;
 use crate::instruction::Instr;
-use crate::table::row_of;
+use crate::table::table_row;
 use aegis_num::OutOfMemory;
 use std::alloc::{AllocError, Global};
 use std::fmt::Write;
@@ -56,7 +56,7 @@ fn push_text(text: &mut String, word: u32) -> Result<(), AllocError>
 fn push_instruction(text: &mut String, instruction: Instr) -> Result<(), AllocError>
     ensures { OnOk result (string_bytes text.new ≡ string_bytes text.old ++ instruction_text instruction) }
 {
-    let row = row_of(instruction);
+    let row = table_row(instruction);
     text.push_str(row.name)?;
     text.push_str(" ")?;
     push_fields(text, row.fields)

@@ -4,8 +4,8 @@ ghost use Rattle.regions.specs.Blocks.{data_blocks};
 ghost use Rattle.regions.specs.declared.layout.TheConstants.{MAX_DATA_BLOCKS};
 
 use crate::{
-    Access, Class, LOG_START, Layout, Mode, ModeUnit, OPEN_END, SHARED_START, TREE_START,
-    UNTRUSTED_START, class_of, height, leaf, may,
+    Access, Class, LOG_START, Layout, Mode, OPEN_END, SHARED_START, TREE_START, UNTRUSTED_START,
+    class_of, height, may,
 };
 
 const CLASSES: [Class; 6] = [
@@ -81,28 +81,6 @@ fn has_the_least_height(rt: HostRuntime) {
 }
 
 #[test]
-fn numbers_the_leaves(rt: HostRuntime) {
-    let rows = [
-        (1, 0, 1),
-        (2, 1, 2),
-        (4, 0, 4),
-        (9, 8, 12),
-        (6_561, 0, 3_280),
-        (6_561, 6_560, 9_840),
-    ];
-    for (blocks, position, block) in rows {
-        assert!(rt; blocks <= 6_561);
-        let layout = code_alone(blocks);
-        assert!(rt; position < blocks);
-        assert_eq!(rt;
-            leaf(&layout, position),
-            block,
-            "position {position} of {blocks}"
-        );
-    }
-}
-
-#[test]
 fn gives_the_class_at_each_edge(rt: HostRuntime) {
     let layout = Layout {
         verified: 1,
@@ -136,59 +114,5 @@ fn gives_the_class_at_each_edge(rt: HostRuntime) {
     ];
     for (at, class) in rows {
         assert_eq!(rt; class_of(&layout, at), class, "{at:08x}");
-    }
-}
-
-#[test]
-fn leads_a_program_through_its_life(rt: HostRuntime) {
-    let mut unit = ModeUnit::new();
-    assert_eq!(rt; unit.mode(), Mode::Std);
-    assert!(rt; unit.enter());
-    assert_eq!(rt; unit.mode(), Mode::Te);
-    assert!(rt; unit.suspend());
-    assert_eq!(rt; unit.mode(), Mode::Ssp);
-    assert!(rt; unit.resume());
-    assert_eq!(rt; unit.mode(), Mode::Te);
-    assert!(rt; unit.private_on());
-    assert_eq!(rt; unit.mode(), Mode::Ptr);
-    assert!(rt; unit.suspend());
-    assert!(rt; unit.resume());
-    assert_eq!(rt; unit.mode(), Mode::Ptr);
-    assert!(rt; unit.private_off());
-    assert_eq!(rt; unit.mode(), Mode::Te);
-    assert!(rt; unit.exit());
-    assert_eq!(rt; unit.mode(), Mode::Std);
-}
-
-#[test]
-fn refuses_where_the_table_does(rt: HostRuntime) {
-    let standard = ModeUnit::new();
-    let mut entered = standard;
-    assert!(rt; entered.enter());
-    let mut private = entered;
-    assert!(rt; private.private_on());
-    let mut suspended = private;
-    assert!(rt; suspended.suspend());
-    // Which of enter, exit, suspend, resume, private on and private off are allowed.
-    let rows = [
-        (standard, [true, false, false, false, false, false]),
-        (entered, [false, true, true, false, true, false]),
-        (private, [false, true, true, false, false, true]),
-        (suspended, [false, false, false, true, false, false]),
-    ];
-    for (unit, allowed) in rows {
-        let mut units = [unit; 6];
-        let answers = [
-            units[0].enter(),
-            units[1].exit(),
-            units[2].suspend(),
-            units[3].resume(),
-            units[4].private_on(),
-            units[5].private_off(),
-        ];
-        assert_eq!(rt; answers, allowed);
-        for (call, left) in units.iter().enumerate() {
-            assert_eq!(rt; *left == unit, !allowed[call], "{unit:?}, call {call}");
-        }
     }
 }
