@@ -1,24 +1,17 @@
 -- Promise: the sites of a program: its places at which a typing rule may be broken, in the order of the source, each with
 -- what is known there. A declaration is known from after it to the end of its scope.
 use Rattle.std.specs.Prelude.{◌≡◌, ℕ, ◌+◌, ◌-◌, Bool, true, false, List, [], ◌∷◌, ◌++◌, length, Option, Some, None, is_some}
-use Rattle.regions.specs.declared.rights.Class.{Class}
-use Rattle.regions.specs.declared.rights.Class.TheVariants as class
 use Rattle.c_grammar.specs.declared.expr.Expr.{Expr}
 use Rattle.c_grammar.specs.declared.expr.Expr.TheOpen.{Expr-F}
 use Rattle.c_grammar.specs.declared.expr.Expr.TheFolds.{fold-Expr}
 use Rattle.c_grammar.specs.declared.stmt.Stmt.{Stmt}
 use Rattle.c_grammar.specs.declared.stmt.Stmt.TheOpen.{Stmt-F}
 use Rattle.c_grammar.specs.declared.stmt.Stmt.TheFolds.{fold-Stmt}
-use Rattle.c_grammar.specs.declared.item.Kind3.TheVariants.{Void}
-use Rattle.c_grammar.specs.declared.item.Storage.{Storage}
-use Rattle.c_grammar.specs.declared.item.Storage.TheVariants.{Verified, Private, Shared, Logged}
 use Rattle.c_grammar.specs.declared.item.Parameter.{Parameter}
 use Rattle.c_grammar.specs.declared.item.Item.{Item}
 use Rattle.c_grammar.specs.declared.item.Item.TheVariants as item
 use Rattle.c_grammar.specs.declared.item.Program.{Program}
 use Rattle.c_scopes.specs.declared.declaration.Declaration.{Declaration}
-use Rattle.c_scopes.specs.declared.declaration.Entity.{Entity}
-use Rattle.c_scopes.specs.declared.declaration.Entity.TheVariants.{Local, Object, Function}
 use Rattle.c_scopes.specs.Declarations.{local, item_name, token_of, declaration_of, declarations_of, parameter, parameters_of}
 use Rattle.c_types.specs.declared.site.Home.{Home}
 use Rattle.c_types.specs.declared.site.How.{How}
