@@ -1,5 +1,5 @@
 -- A text reads to changes exactly where these keep the rules and each has a line.
-use Rattle.std.proofs.Common.{◌≡◌, ◌≢◌, ℕ, zero, suc, ◌+◌, ◌-◌, take, ◌<◌, ◌≤◌, Bool, true, false, cond, not, ◌&&◌, List, [], ◌∷◌, ◌++◌, length, eqb, leb, ltb, Option, Some, None, Result, Ok, Err, refl, sym, ap, ◌∙◌, subst, arith, length-append}
+use Rattle.std.proofs.Common.{◌≡◌, ◌≢◌, ℕ, zero, suc, ◌+◌, ◌-◌, take, ◌<◌, ◌≤◌, Bool, true, false, cond, not, List, [], ◌∷◌, ◌++◌, length, eqb, Option, Some, None, Result, Ok, Err, refl, sym, ap, ◌∙◌, subst, arith, length-append}
 use Rattle.std.specs.Prelude.{◌↔◌, slice_index_or, slice_index, if◌then◌else◌}
 use Rattle.std.specs.List.{list_all, slice_split, All}
 use Rattle.std.specs.Str.Lines.{lines, lines_of_parts, strip_carriage_return}
@@ -15,7 +15,7 @@ use Rattle.adversary_script.specs.declared.fault.Fault.{Fault}
 use Rattle.adversary_script.specs.declared.fault.Fault.TheVariants.{Line, Range, Order, TooMany}
 use Rattle.adversary_script.specs.ScriptRules.{is_in_range, may_precede, bytes_written, all_bytes_written, are_in_order, KeepsScriptRules}
 use Rattle.adversary_script.specs.LineFields.{is_line_byte, fields_of}
-use Rattle.adversary_script.specs.ScriptGrammar.{is_in_order, has_room, ruled, fields_say, line_says, added, read_line, fault_at, after_line, changes_from, script_of, ◌>>=◌}
+use Rattle.adversary_script.specs.ScriptGrammar.{is_in_order, has_room, ruled, fields_say, line_says, added, read_line, after_line, changes_from, script_of, ◌>>=◌}
 use Rattle.adversary_script.specs.ScriptTexts.{HasLine, AllHaveLines, HasScriptText}
 use Rattle.adversary_script.proofs.Drafts.{KeepsRules-push}
 use Rattle.adversary_script.proofs.Lines.{lines_of_parts-more}
