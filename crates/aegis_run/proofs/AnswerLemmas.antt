@@ -2,7 +2,7 @@
 use Rattle.std.proofs.Common.{◌≡◌, ◌≢◌, inl, inr, ℕ, List, [], length, unwrap_or, Option, None, Some, refl, sym, ◌∙◌, ap, subst, arith}
 use Rattle.aegis_edge.specs.Folder.{Files, content_of}
 use Rattle.c_grammar.specs.declared.item.Program.{Program}
-use Rattle.c_resolver.specs.Resolving.{program_in}
+use Rattle.c_resolver.specs.Resolving.{plain_program}
 use Rattle.c_semantics.specs.Meaning.{Meaning, mean_alone}
 use Rattle.aegis_run.specs.declared.ends.File.{File}
 use Rattle.aegis_run.specs.declared.ends.File.TheVariants.{Source, Script, Input}
@@ -11,12 +11,12 @@ use Rattle.aegis_run.specs.declared.ends.TopEnd.TheVariants.{Run, Mean, Usage, T
 use Rattle.aegis_run.specs.Words.{RunNames, MeanNames, Command}
 use Rattle.aegis_run.specs.Words as asks
 use Rattle.aegis_run.specs.Literals.{literals_of}
-use Rattle.c_text.specs.Texts.{IsText}
+use Rattle.c_grammar.specs.TokenPrograms.{HasProgram}
 use Rattle.aegis_run.specs.Answer.{name_for, turns_for, Sends, IsRetired, IsRead, IsAccepted, IsAbsent, IsOverlong, Lacks, Exceeds, IsReached, PassesSource, PassesScript, IsRefused, IsNotYet, IsScriptNotYet, MeansFrom, RunMeans, MeanMeans, CauseOf, AreTold, SourceFault, IsOrFails, StartsRun, TellsMeaning}
 use Rattle.aegis_run.specs.Opening.{Writes}
-use Rattle.aegis_run.proofs.SourceLemmas.{Laws, accepted_fault, one_fault, one_literals}
+use Rattle.aegis_run.proofs.SourceLemmas.{accepted_fault, one_fault, one_text}
 
--- an answer behind which nothing was written sends nothing
+-- an answer after which nothing was written sends nothing
 pub Sends-unwritten : (row : Option Command) (files : Option Files) (end : TopEnd) (written : Option (List ℕ)) → (Writes end → ⊥) → Sends row files end written written
 Sends-unwritten row files (Run end) written unwritten = absurd (unwritten tt)
 Sends-unwritten row files (Mean end) written unwritten = absurd (unwritten tt)
@@ -79,40 +79,40 @@ read_once : (files : Files) (name first second : List ℕ) (file : File) → IsR
 read_once files name first second file one two = let same : Some first ≡ Some second = sym one.whole ∙ two.whole in cc
 
 -- an accepted source was not refused
-refused_accepted : Laws → (files : Files) (command : Command) (end : TopEnd) (p : Program) → IsRefused (Some files) command end → IsAccepted (Some files) (name_for command Source) p → ⊥
-refused_accepted laws files command end p refused accepted =
+refused_accepted : (files : Files) (command : Command) (end : TopEnd) (p : Program) → IsRefused (Some files) command end → IsAccepted (Some files) (name_for command Source) p → ⊥
+refused_accepted files command end p refused accepted =
     let same : refused.text ≡ accepted.text = read_once files (name_for command Source) refused.text accepted.text Source refused.read accepted.read in
     let P : List ℕ → Type 0 = λ text. SourceFault text end in
-    accepted_fault laws accepted.text p end accepted.is_text accepted.typed (subst P same refused.fault)
+    accepted_fault accepted.text p end accepted.is_text accepted.typed (subst P same refused.fault)
 
 -- a source is refused in one way
-refused_once : Laws → (files : Files) (command : Command) (a b : TopEnd) → IsRefused (Some files) command a → IsRefused (Some files) command b → a ≡ b
-refused_once laws files command a b first second =
+refused_once : (files : Files) (command : Command) (a b : TopEnd) → IsRefused (Some files) command a → IsRefused (Some files) command b → a ≡ b
+refused_once files command a b first second =
     let same : first.text ≡ second.text = read_once files (name_for command Source) first.text second.text Source first.read second.read in
     let P : List ℕ → Type 0 = λ text. SourceFault text a in
-    one_fault laws second.text a b (subst P same first.fault) second.fault
+    one_fault second.text a b (subst P same first.fault) second.fault
 
 -- accepted sources of one name are the same text
-accepted_text : (files : Files) (name : List ℕ) (p q : Program) (one : IsAccepted (Some files) name p) (two : IsAccepted (Some files) name q) → IsText two.text p
+accepted_text : (files : Files) (name : List ℕ) (p q : Program) (one : IsAccepted (Some files) name p) (two : IsAccepted (Some files) name q) → HasProgram two.text p
 accepted_text files name p q one two =
-    let P : List ℕ → Type 0 = λ text. IsText text p in
+    let P : List ℕ → Type 0 = λ text. HasProgram text p in
     subst P (read_once files name one.text two.text Source one.read two.read) one.is_text
 
 -- they release the same literals, and mean the same
-literals_once : Laws → (files : Files) (name : List ℕ) (p q : Program) → IsAccepted (Some files) name p → IsAccepted (Some files) name q → literals_of p ≡ literals_of q
-literals_once laws files name p q one two = one_literals laws.one two.text p q (accepted_text files name p q one two) two.is_text
+literals_once : (files : Files) (name : List ℕ) (p q : Program) → IsAccepted (Some files) name p → IsAccepted (Some files) name q → literals_of p ≡ literals_of q
+literals_once files name p q one two = ap literals_of (one_text two.text p q (accepted_text files name p q one two) two.is_text)
 
-meaning_once : Laws → (files : Files) (command : Command) (m n : Meaning) → MeansFrom (Some files) command m → MeansFrom (Some files) command n → m ≡ n
-meaning_once laws files command m n one two =
+meaning_once : (files : Files) (command : Command) (m n : Meaning) → MeansFrom (Some files) command m → MeansFrom (Some files) command n → m ≡ n
+meaning_once files command m n one two =
     let text = accepted_text files (name_for command Source) one.program two.program one.accepted two.accepted in
-    let same : program_in one.program ≡ program_in two.program = laws.resolved two.accepted.text one.program two.program text two.accepted.is_text in
+    let same : plain_program one.program ≡ plain_program two.program = ap plain_program (one_text two.accepted.text one.program two.program text two.accepted.is_text) in
     let input : one.input ≡ two.input = read_once files (name_for command Input) one.input two.input Input one.input_read two.input_read in
     sym one.meaning_is ∙ ap (λ program. mean_alone program one.input (turns_for command)) same
-    ∙ ap (λ input. mean_alone (program_in two.program) input (turns_for command)) input ∙ two.meaning_is
+    ∙ ap (λ input. mean_alone (plain_program two.program) input (turns_for command)) input ∙ two.meaning_is
 
 -- ---- what comes first
 
--- behind the source a file is opened only where the source passed
+-- after the source a file is opened only where the source passed
 reached_passes : (files : Option Files) (command : Command) (file : File) → file ≢ Source → IsReached files command file → PassesSource files command
 reached_passes files command Source other reached = absurd (other refl)
 reached_passes files (asks.Run names) Script other reached = reached
@@ -156,16 +156,16 @@ run_passes : (files : Option Files) (command : Command) (m : Meaning) → RunMea
 run_passes files command m means = means_passes files command m (run_from files command m means)
 
 -- a source that is not run yet does not pass
-not_yet_passes : Laws → (files : Files) (command : Command) → IsNotYet (Some files) command → PassesSource (Some files) command → ⊥
-not_yet_passes laws files (asks.Mean names) not_yet passes = not_yet
-not_yet_passes laws files (asks.Run names) not_yet passes =
+not_yet_passes : (files : Files) (command : Command) → IsNotYet (Some files) command → PassesSource (Some files) command → ⊥
+not_yet_passes files (asks.Mean names) not_yet passes = not_yet
+not_yet_passes files (asks.Run names) not_yet passes =
     let suits : (literals : List ℕ) × (literals_of passes.0 ≡ Some literals) = passes.2 in
-    let both : Some suits.0 ≡ None = sym suits.1 ∙ literals_once laws files names.source passes.0 not_yet.0 passes.1 not_yet.1 ∙ not_yet.2 in cc
+    let both : Some suits.0 ≡ None = sym suits.1 ∙ literals_once files names.source passes.0 not_yet.0 passes.1 not_yet.1 ∙ not_yet.2 in cc
 
 -- a source that is not run yet was read, and not refused
-not_yet_refused : Laws → (files : Files) (command : Command) (end : TopEnd) → IsNotYet (Some files) command → IsRefused (Some files) command end → ⊥
-not_yet_refused laws files (asks.Mean names) end not_yet refused = not_yet
-not_yet_refused laws files (asks.Run names) end not_yet refused = refused_accepted laws files (asks.Run names) end not_yet.0 refused not_yet.1
+not_yet_refused : (files : Files) (command : Command) (end : TopEnd) → IsNotYet (Some files) command → IsRefused (Some files) command end → ⊥
+not_yet_refused files (asks.Mean names) end not_yet refused = not_yet
+not_yet_refused files (asks.Run names) end not_yet refused = refused_accepted files (asks.Run names) end not_yet.0 refused not_yet.1
 
 script_passes : (files : Option Files) (command : Command) → IsScriptNotYet files command → PassesSource files command
 script_passes files (asks.Run names) holds = holds.reached
@@ -178,21 +178,21 @@ holds_passes files (asks.Mean names) holds passes = holds
 
 -- ---- where a source is refused, no other answer has a cause
 
-pub refuses_source : Laws → (files : Option Files) (command : Command) (before now : ℕ) (expected end : TopEnd) → AreTold files → IsRefused files command expected → CauseOf command files before now end → IsOrFails expected end
-refuses_source laws None command before now expected end told refused cause = absurd told
-refuses_source laws (Some files) command before now expected end told refused cause = go end cause
+pub refuses_source : (files : Option Files) (command : Command) (before now : ℕ) (expected end : TopEnd) → AreTold files → IsRefused files command expected → CauseOf command files before now end → IsOrFails expected end
+refuses_source None command before now expected end told refused cause = absurd told
+refuses_source (Some files) command before now expected end told refused cause = go end cause
   where
     stops : PassesSource (Some files) command → ⊥
-    stops passes = refused_accepted laws files command expected passes.0 refused passes.1
+    stops passes = refused_accepted files command expected passes.0 refused passes.1
 
     go : (end : TopEnd) → CauseOf command (Some files) before now end → IsOrFails expected end
     go Usage cause = absurd cause
     go (NoFile file) cause = absurd (lacks_source files command file refused.text before now refused.read stops cause)
     go (TooLong file) cause = absurd (exceeds_source files command file refused.text before now refused.read stops cause)
-    go (Token error) cause = inl (refused_once laws files command (Token error) expected cause refused)
-    go (Syntax error) cause = inl (refused_once laws files command (Syntax error) expected cause refused)
-    go (Typing error) cause = inl (refused_once laws files command (Typing error) expected cause refused)
-    go (NotYet Source) cause = absurd (not_yet_refused laws files command expected cause refused)
+    go (Token error) cause = inl (refused_once files command (Token error) expected cause refused)
+    go (Syntax error) cause = inl (refused_once files command (Syntax error) expected cause refused)
+    go (Typing error) cause = inl (refused_once files command (Typing error) expected cause refused)
+    go (NotYet Source) cause = absurd (not_yet_refused files command expected cause refused)
     go (NotYet Script) cause = absurd (stops (script_passes (Some files) command cause))
     go (NotYet Input) cause = absurd cause
     go ReadFault cause = inr tt
@@ -203,21 +203,21 @@ refuses_source laws (Some files) command before now expected end told refused ca
 
 -- ---- where a source is not run yet, no other answer has a cause
 
-pub not_yet : Laws → (files : Option Files) (command : Command) (before now : ℕ) (end : TopEnd) → AreTold files → IsNotYet files command → CauseOf command files before now end → IsOrFails (NotYet Source) end
-not_yet laws None command before now end told source cause = absurd told
-not_yet laws (Some files) (asks.Mean names) before now end told source cause = absurd source
-not_yet laws (Some files) (asks.Run names) before now end told source cause = go end cause
+pub not_yet : (files : Option Files) (command : Command) (before now : ℕ) (end : TopEnd) → AreTold files → IsNotYet files command → CauseOf command files before now end → IsOrFails (NotYet Source) end
+not_yet None command before now end told source cause = absurd told
+not_yet (Some files) (asks.Mean names) before now end told source cause = absurd source
+not_yet (Some files) (asks.Run names) before now end told source cause = go end cause
   where
     stops : PassesSource (Some files) (asks.Run names) → ⊥
-    stops passes = not_yet_passes laws files (asks.Run names) source passes
+    stops passes = not_yet_passes files (asks.Run names) source passes
 
     go : (end : TopEnd) → CauseOf (asks.Run names) (Some files) before now end → IsOrFails (NotYet Source) end
     go Usage cause = absurd cause
     go (NoFile file) cause = absurd (lacks_source files (asks.Run names) file source.1.text before now source.1.read stops cause)
     go (TooLong file) cause = absurd (exceeds_source files (asks.Run names) file source.1.text before now source.1.read stops cause)
-    go (Token error) cause = absurd (refused_accepted laws files (asks.Run names) (Token error) source.0 cause source.1)
-    go (Syntax error) cause = absurd (refused_accepted laws files (asks.Run names) (Syntax error) source.0 cause source.1)
-    go (Typing error) cause = absurd (refused_accepted laws files (asks.Run names) (Typing error) source.0 cause source.1)
+    go (Token error) cause = absurd (refused_accepted files (asks.Run names) (Token error) source.0 cause source.1)
+    go (Syntax error) cause = absurd (refused_accepted files (asks.Run names) (Syntax error) source.0 cause source.1)
+    go (Typing error) cause = absurd (refused_accepted files (asks.Run names) (Typing error) source.0 cause source.1)
     go (NotYet Source) cause = inl refl
     go (NotYet Script) cause = absurd (stops (script_passes (Some files) (asks.Run names) cause))
     go (NotYet Input) cause = absurd cause
@@ -230,13 +230,13 @@ not_yet laws (Some files) (asks.Run names) before now end told source cause = go
 -- ---- where the source passes, only a later file or the run itself decides
 
 -- an accepted source was refused in no way
-passes_refused : Laws → (files : Files) (command : Command) (end : TopEnd) → PassesSource (Some files) command → IsRefused (Some files) command end → ⊥
-passes_refused laws files command end passes refused = refused_accepted laws files command end passes.0 refused passes.1
+passes_refused : (files : Files) (command : Command) (end : TopEnd) → PassesSource (Some files) command → IsRefused (Some files) command end → ⊥
+passes_refused files command end passes refused = refused_accepted files command end passes.0 refused passes.1
 
-pub script_not_yet : Laws → (files : Option Files) (command : Command) (before now : ℕ) (end : TopEnd) → AreTold files → IsScriptNotYet files command → CauseOf command files before now end → IsOrFails (NotYet Script) end
-script_not_yet laws None command before now end told holds cause = absurd told
-script_not_yet laws (Some files) (asks.Mean names) before now end told holds cause = absurd holds
-script_not_yet laws (Some files) (asks.Run names) before now end told holds cause = go end cause
+pub script_not_yet : (files : Option Files) (command : Command) (before now : ℕ) (end : TopEnd) → AreTold files → IsScriptNotYet files command → CauseOf command files before now end → IsOrFails (NotYet Script) end
+script_not_yet None command before now end told holds cause = absurd told
+script_not_yet (Some files) (asks.Mean names) before now end told holds cause = absurd holds
+script_not_yet (Some files) (asks.Run names) before now end told holds cause = go end cause
   where
     passes : PassesSource (Some files) (asks.Run names)
     passes = holds.reached
@@ -252,10 +252,10 @@ script_not_yet laws (Some files) (asks.Run names) before now end told holds caus
     go (TooLong Source) cause = absurd (read_overlong files names.source passes.1.text Source before now passes.1.read cause.1)
     go (TooLong Script) cause = absurd (read_overlong files names.script holds.text Script before now holds.read cause.1)
     go (TooLong Input) cause = absurd (stops cause.0.1)
-    go (Token error) cause = absurd (passes_refused laws files (asks.Run names) (Token error) passes cause)
-    go (Syntax error) cause = absurd (passes_refused laws files (asks.Run names) (Syntax error) passes cause)
-    go (Typing error) cause = absurd (passes_refused laws files (asks.Run names) (Typing error) passes cause)
-    go (NotYet Source) cause = absurd (not_yet_passes laws files (asks.Run names) cause passes)
+    go (Token error) cause = absurd (passes_refused files (asks.Run names) (Token error) passes cause)
+    go (Syntax error) cause = absurd (passes_refused files (asks.Run names) (Syntax error) passes cause)
+    go (Typing error) cause = absurd (passes_refused files (asks.Run names) (Typing error) passes cause)
+    go (NotYet Source) cause = absurd (not_yet_passes files (asks.Run names) cause passes)
     go (NotYet Script) cause = inl refl
     go (NotYet Input) cause = absurd cause
     go ReadFault cause = inr tt
@@ -282,9 +282,9 @@ exceeds_means files command Input m before now means exceeds = read_overlong fil
 means_script : (files : Files) (command : Command) (m : Meaning) → MeansFrom (Some files) command m → IsScriptNotYet (Some files) command → ⊥
 means_script files command m means holds = holds_passes files command holds means.script_read
 
-pub starts_run : Laws → (files : Option Files) (command : Command) (m : Meaning) (before now : ℕ) (end : TopEnd) → AreTold files → RunMeans files command m → CauseOf command files before now end → StartsRun end
-starts_run laws None command m before now end told means cause = absurd told
-starts_run laws (Some files) command m before now end told means cause = go end cause
+pub starts_run : (files : Option Files) (command : Command) (m : Meaning) (before now : ℕ) (end : TopEnd) → AreTold files → RunMeans files command m → CauseOf command files before now end → StartsRun end
+starts_run None command m before now end told means cause = absurd told
+starts_run (Some files) command m before now end told means cause = go end cause
   where
     from : MeansFrom (Some files) command m
     from = run_from (Some files) command m means
@@ -296,10 +296,10 @@ starts_run laws (Some files) command m before now end told means cause = go end 
     go Usage cause = cause
     go (NoFile file) cause = absurd (lacks_means files command file m before now from cause)
     go (TooLong file) cause = absurd (exceeds_means files command file m before now from cause)
-    go (Token error) cause = absurd (passes_refused laws files command (Token error) passes cause)
-    go (Syntax error) cause = absurd (passes_refused laws files command (Syntax error) passes cause)
-    go (Typing error) cause = absurd (passes_refused laws files command (Typing error) passes cause)
-    go (NotYet Source) cause = absurd (not_yet_passes laws files command cause passes)
+    go (Token error) cause = absurd (passes_refused files command (Token error) passes cause)
+    go (Syntax error) cause = absurd (passes_refused files command (Syntax error) passes cause)
+    go (Typing error) cause = absurd (passes_refused files command (Typing error) passes cause)
+    go (NotYet Source) cause = absurd (not_yet_passes files command cause passes)
     go (NotYet Script) cause = absurd (means_script files command m from cause)
     go (NotYet Input) cause = absurd cause
     go ReadFault cause = tt
@@ -308,9 +308,9 @@ starts_run laws (Some files) command m before now end told means cause = go end 
     go (Run how) cause = tt
     go (Mean how) cause = absurd (run_mean (Some files) command m cause.0 means cause.1)
 
-pub tells_meaning : Laws → (files : Option Files) (command : Command) (m : Meaning) (before now : ℕ) (end : TopEnd) → AreTold files → MeanMeans files command m → CauseOf command files before now end → TellsMeaning m.end end
-tells_meaning laws None command m before now end told means cause = absurd told
-tells_meaning laws (Some files) command m before now end told means cause = go end cause
+pub tells_meaning : (files : Option Files) (command : Command) (m : Meaning) (before now : ℕ) (end : TopEnd) → AreTold files → MeanMeans files command m → CauseOf command files before now end → TellsMeaning m.end end
+tells_meaning None command m before now end told means cause = absurd told
+tells_meaning (Some files) command m before now end told means cause = go end cause
   where
     from : MeansFrom (Some files) command m
     from = mean_from (Some files) command m means
@@ -322,10 +322,10 @@ tells_meaning laws (Some files) command m before now end told means cause = go e
     go Usage cause = cause
     go (NoFile file) cause = absurd (lacks_means files command file m before now from cause)
     go (TooLong file) cause = absurd (exceeds_means files command file m before now from cause)
-    go (Token error) cause = absurd (passes_refused laws files command (Token error) passes cause)
-    go (Syntax error) cause = absurd (passes_refused laws files command (Syntax error) passes cause)
-    go (Typing error) cause = absurd (passes_refused laws files command (Typing error) passes cause)
-    go (NotYet Source) cause = absurd (not_yet_passes laws files command cause passes)
+    go (Token error) cause = absurd (passes_refused files command (Token error) passes cause)
+    go (Syntax error) cause = absurd (passes_refused files command (Syntax error) passes cause)
+    go (Typing error) cause = absurd (passes_refused files command (Typing error) passes cause)
+    go (NotYet Source) cause = absurd (not_yet_passes files command cause passes)
     go (NotYet Script) cause = absurd (means_script files command m from cause)
     go (NotYet Input) cause = absurd cause
     go ReadFault cause = tt
@@ -333,5 +333,5 @@ tells_meaning laws (Some files) command m before now end told means cause = go e
     go WriteFault cause = tt
     go (Run how) cause = absurd (run_mean (Some files) command cause.0 m cause.1 means)
     go (Mean how) cause =
-        let same : cause.0 ≡ m = meaning_once laws files command cause.0 m (mean_from (Some files) command cause.0 cause.1) from in
+        let same : cause.0 ≡ m = meaning_once files command cause.0 m (mean_from (Some files) command cause.0 cause.1) from in
         cause.2 ∙ ap (λ meaning. meaning.end) same

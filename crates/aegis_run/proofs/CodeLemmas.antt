@@ -21,7 +21,7 @@ use Rattle.orbis_core.proofs.ProcessorLemmas.{register-with_register, register-w
 use Rattle.std.specs.Int.Bits.{or_zero_l}
 use Rattle.aegis_num.specs.declared.limits.TheConstants.{MAX_SOURCE_BYTES}
 use Rattle.aegis_run.specs.Literals.{released}
-use Rattle.aegis_run.specs.Code.{CodeRunsTo, Fetches, HoldsCode, code_of, program_of, reset, straight_core, words_left, RunsTo}
+use Rattle.aegis_run.specs.Code.{CodeRunsTo, Fetches, HoldsCode, code_of, release_program, reset, straight_core, words_left, RunsTo}
 
 -- each word fits 32 bits
 abbrev AreWords : List ℕ → Type 0
@@ -35,14 +35,14 @@ replicate-AreWords : (count word : ℕ) → word < 2 ^ 32 → AreWords (replicat
 replicate-AreWords zero word below = tt
 replicate-AreWords (suc count) word below = (below, replicate-AreWords count word below)
 
-program-AreWords : (literals : List ℕ) → AreWords (program_of literals)
+program-AreWords : (literals : List ℕ) → AreWords (release_program literals)
 program-AreWords [] = (omega arith, tt)
 program-AreWords (literal ∷ literals) = (omega arith, (omega arith, program-AreWords literals))
 
 pub code-AreWords : (literals : List ℕ) → AreWords (code_of literals)
 code-AreWords literals =
-    append-AreWords (program_of literals) (replicate (words_left (length (program_of literals))) (encoding (Nop 0)))
-    (program-AreWords literals) (replicate-AreWords (words_left (length (program_of literals))) (encoding (Nop 0)) (omega arith))
+    append-AreWords (release_program literals) (replicate (words_left (length (release_program literals))) (encoding (Nop 0)))
+    (program-AreWords literals) (replicate-AreWords (words_left (length (release_program literals))) (encoding (Nop 0)) (omega arith))
 
 -- a memory that holds code answers a fetch by the word there
 fetched-word : (memory : Flat) (code : List ℕ) (k at word : ℕ) → HoldsCode memory code → AreWords code → length code % 16 ≡ 0 → length code ≤ 16 * 6561 → k < length code
@@ -61,9 +61,9 @@ fetched-word memory code k at word holds small whole fits below place is =
     let found : flat_word memory at ≡ word = ap (λ m. flat_word m at) holds.filled ∙ there ∙ ap (λ ws. get_or ws k 0) words ∙ is in
     rw (allowed, found) refl
 
--- the words before are done, and the processor stands at the first word of those behind
-record StandsAt (code before behind : List ℕ) (core : Processor) : Type 0 where
-  whole : code ≡ before ++ behind
+-- the words before are done, and the processor stands at the first word of the rest
+record StandsAt (code before beyond : List ℕ) (core : Processor) : Type 0 where
+  whole : code ≡ before ++ beyond
   place : core.pc ≡ TREE_START + 4 * length before
 
 -- what is known of the code all along
@@ -74,9 +74,9 @@ record IsLoaded (memory : Flat) (code : List ℕ) : Type 0 where
   fits : length code ≤ 16 * 6561
 
 -- the fetch answers the word that the processor stands at
-fetched-stands : (memory : Flat) (code before behind : List ℕ) (instruction : Instr) (core : Processor) → IsLoaded memory code → IsInRange instruction
-    → StandsAt code before (encoding instruction ∷ behind) core → Fetches memory core instruction
-fetched-stands memory code before behind instruction core loaded in_range at =
+fetched-stands : (memory : Flat) (code before beyond : List ℕ) (instruction : Instr) (core : Processor) → IsLoaded memory code → IsInRange instruction
+    → StandsAt code before (encoding instruction ∷ beyond) core → Fetches memory core instruction
+fetched-stands memory code before beyond instruction core loaded in_range at =
     let below : length before < length code = rw at.whole (simp length-append (omega arith)) in
     let there : get_or code (length before) 0 ≡ encoding instruction = rw at.whole (grind (arith, common_steps)) in
     record {
@@ -84,13 +84,13 @@ fetched-stands memory code before behind instruction core loaded in_range at =
       word = fetched-word memory code (length before) core.pc (encoding instruction) loaded.holds loaded.small loaded.blocks loaded.fits below at.place there;
     }
 
--- behind a word the processor stands at the next one
-stands-next : (code before behind : List ℕ) (word : ℕ) (core next : Processor) → length code ≤ 16 * 6561
-    → StandsAt code before (word ∷ behind) core → next.pc ≡ (core.pc + 4) % 2 ^ 32 → StandsAt code (before ++ word ∷ []) behind next
-stands-next code before behind word core next fits at moved = record {
-  whole = at.whole ∙ sym (append_assoc before (word ∷ []) behind);
+-- after a word the processor stands at the next one
+stands-next : (code before beyond : List ℕ) (word : ℕ) (core next : Processor) → length code ≤ 16 * 6561
+    → StandsAt code before (word ∷ beyond) core → next.pc ≡ (core.pc + 4) % 2 ^ 32 → StandsAt code (before ++ word ∷ []) beyond next
+stands-next code before beyond word core next fits at moved = record {
+  whole = at.whole ∙ sym (append_assoc before (word ∷ []) beyond);
   place =
-      let count : length code ≡ length before + length (word ∷ behind) = ap length at.whole ∙ length-append before (word ∷ behind) in
+      let count : length code ≡ length before + length (word ∷ beyond) = ap length at.whole ∙ length-append before (word ∷ beyond) in
       let longer : length (before ++ word ∷ []) ≡ length before + 1 = length-append before (word ∷ []) in
       let at_word : core.pc ≡ TREE_START + 4 * length before = at.place in
       rw longer (omega arith);
@@ -132,7 +132,7 @@ low_byte literal = omega arith
 
 -- from the first word of the program of these literals the processor releases their low bytes, and exits
 runs-from : (memory : Flat) (code fill : List ℕ) → IsLoaded memory code → (literals before : List ℕ) (core : Processor) → IsWhole core
-    → StandsAt code before (program_of literals ++ fill) core
+    → StandsAt code before (release_program literals ++ fill) core
     → RunsTo memory (steps_of literals) core (map (λ n. n % 256) literals)
 runs-from memory code fill loaded [] before core is at =
     (Cust1 1, fetched-stands memory code before _ (Cust1 1) core loaded (omega arith) at, inr refl, (refl, refl))
@@ -140,10 +140,10 @@ runs-from memory code fill loaded (literal ∷ literals) before core is at =
     let low : Instr = Ori 3 0 (literal % 65536) in
     let release : Instr = Cust1 6 in
     let half : Processor = straight_core (effect_of low core) core in
-    let behind : Processor = straight_core (effect_of release half) half in
-    let later : List ℕ = program_of literals ++ fill in
+    let beyond : Processor = straight_core (effect_of release half) half in
+    let later : List ℕ = release_program literals ++ fill in
     let at_release : StandsAt code (before ++ encoding low ∷ []) (encoding release ∷ later) half = stands-next code before _ _ core half loaded.fits at refl in
-    let at_later : StandsAt code _ later behind = stands-next code _ _ _ half behind loaded.fits at_release refl in
+    let at_later : StandsAt code _ later beyond = stands-next code _ _ _ half beyond loaded.fits at_release refl in
     let held : Holds half literal = holds-half core literal is in
     let byte : register half 3 % 256 ≡ literal % 256 = ap (λ n. n % 256) held.half ∙ low_byte literal in (
       low,
@@ -156,19 +156,19 @@ runs-from memory code fill loaded (literal ∷ literals) before core is at =
         (
           map (λ n. n % 256) literals,
           ap (λ byte. byte ∷ map (λ n. n % 256) literals) (sym byte),
-          runs-from memory code fill loaded literals _ behind (record { registers = held.whole.registers; zero = held.whole.zero }) at_later,
+          runs-from memory code fill loaded literals _ beyond (record { registers = held.whole.registers; zero = held.whole.zero }) at_later,
         ),
       ),
     )
 
-length-program_of : (literals : List ℕ) → length (program_of literals) ≡ 2 * length literals + 1
-length-program_of [] = refl
-length-program_of (literal ∷ literals) = let rest : length (program_of literals) ≡ 2 * length literals + 1 = length-program_of literals in omega arith
+length-release_program : (literals : List ℕ) → length (release_program literals) ≡ 2 * length literals + 1
+length-release_program [] = refl
+length-release_program (literal ∷ literals) = let rest : length (release_program literals) ≡ 2 * length literals + 1 = length-release_program literals in omega arith
 
 length-code_of : (literals : List ℕ) → length (code_of literals) ≡ 2 * length literals + 1 + words_left (2 * length literals + 1)
 length-code_of literals =
-    let program : length (program_of literals) ≡ 2 * length literals + 1 = length-program_of literals in
-    length-append (program_of literals) _ ∙ ap (λ n. length (program_of literals) + n) (length-replicate (words_left (length (program_of literals))) (encoding (Nop 0)))
+    let program : length (release_program literals) ≡ 2 * length literals + 1 = length-release_program literals in
+    length-append (release_program literals) _ ∙ ap (λ n. length (release_program literals) + n) (length-replicate (words_left (length (release_program literals))) (encoding (Nop 0)))
     ∙ ap (λ n. n + words_left n) program
 
 -- code that was compiled from few literals fills whole blocks, fits the memory, and runs to its exit

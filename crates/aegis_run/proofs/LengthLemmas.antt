@@ -24,8 +24,8 @@ use Rattle.aegis_run.specs.Literals.{released_by, returns_literal, in_front, bod
 two_more : (n : ℕ) (x y : Bounded) (xs : List Bounded) → n ≤ length xs → n ≤ length (x ∷ y ∷ xs)
 two_more n x y xs le = omega (arith, le)
 
-behind : (n : ℕ) (xs ys : List Bounded) → n ≤ length ys → n ≤ length (xs ++ ys)
-behind n xs ys le = let sum : length (xs ++ ys) ≡ length xs + length ys = length-append xs ys in omega (arith, le)
+beyond : (n : ℕ) (xs ys : List Bounded) → n ≤ length ys → n ≤ length (xs ++ ys)
+beyond n xs ys le = let sum : length (xs ++ ys) ≡ length xs + length ys = length-append xs ys in omega (arith, le)
 
 before : (n : ℕ) (xs ys : List Bounded) → n ≤ length xs → n ≤ length (xs ++ ys)
 before n xs ys le = let sum : length (xs ++ ys) ≡ length xs + length ys = length-append xs ys in omega (arith, le)
@@ -145,8 +145,8 @@ few_in_item ts x literals (p.function {ts = ks} {us = bs} {vs = cs} {ws = ds} {b
     let inner : List Bounded = ds ++ sign end RightBrace ∷ [] in
     let block : List Bounded = sign right RightParenthesis ∷ sign start LeftBrace ∷ inner in
     let named : List Bounded = name at text ∷ sign left LeftParenthesis ∷ cs ++ block in
-    behind n ks (bs ++ named) (behind n bs named
-    (two_more n (name at text) (sign left LeftParenthesis) (cs ++ block) (behind n cs block
+    beyond n ks (bs ++ named) (beyond n bs named
+    (two_more n (name at text) (sign left LeftParenthesis) (cs ++ block) (beyond n cs block
     (two_more n (sign right RightParenthesis) (sign start LeftBrace) inner (before n ds (sign end RightBrace ∷ []) few)))))
 
 few_in_items : (ts : List Bounded) (xs : List Item) (literals : List ℕ) → AreItems ts xs → items_literals xs ≡ Some literals → 5 * length literals ≤ length ts

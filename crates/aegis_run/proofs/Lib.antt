@@ -1,11 +1,11 @@
-pub mod AnswerLemmas
-pub mod CodeLemmas
-pub mod Examples
-pub mod LengthLemmas
-pub mod LiteralLemmas
-pub mod MachineLemmas
-pub mod MeaningLemmas
-pub mod OpeningLemmas
-pub mod SourceLemmas
-pub mod TypingLemmas
-pub mod WordLemmas
+mod AnswerLemmas
+mod CodeLemmas
+mod Examples
+mod LengthLemmas
+mod LiteralLemmas
+mod MachineLemmas
+mod MeaningLemmas
+mod OpeningLemmas
+mod SourceLemmas
+mod TypingLemmas
+mod WordLemmas

@@ -17,14 +17,14 @@ use Rattle.orbis_core.specs.ByteOrder.{bytes_of}
 use Rattle.regions.specs.declared.Layout.{Layout}
 use Rattle.orbis_core.specs.Processor.{Processor}
 use Rattle.orbis_core.specs.Rows.{Machine, Carries, Leaves, Steps}
-use Rattle.aegis_run.specs.Code.{HoldsCode, RunsTo, GoesOn, IsStraight, straight_end, straight_core}
+use Rattle.aegis_run.specs.Code.{HoldsCode, RunsTo, ReleasesOn, IsStraight, straight_end, straight_core}
 
 -- nothing is appended by nothing
 pub Appends-nothing : (old : Option (List ℕ)) → Appends old old []
 Appends-nothing None = refl
 Appends-nothing (Some old) = ap Some (sym (append-nil old))
 
--- two pieces, one behind the other
+-- two pieces, one after the other
 pub Appends-next : (old mid new : Option (List ℕ)) (sent piece : List ℕ) → Appends old mid sent → Appends mid new piece → Appends old new (sent ++ piece)
 Appends-next None mid new sent piece first second = let P : Option (List ℕ) → Type 0 = λ m. Appends m new piece in subst P first second
 Appends-next (Some old) mid new sent piece first second =
@@ -76,7 +76,7 @@ straight accesses DivideByZero old new end is row = absurd is
 pub record Follows (steps : ℕ) (bytes : List ℕ) (old new : Machine Flat) (end : StepEnd) : Type 0 where
   pub memory : new.memory ≡ old.memory
   pub port : new.port ≡ old.port
-  pub goes_on : GoesOn end (RunsTo new.memory steps new.core) steps bytes
+  pub goes_on : ReleasesOn end (RunsTo new.memory steps new.core) steps bytes
 
 -- a step over flat memory is the one that the code makes
 pub follows : (steps : ℕ) (bytes : List ℕ) (old new : Machine Flat) (end : StepEnd)
@@ -87,9 +87,9 @@ follows steps bytes old new end runs step =
     let row : Leaves (straight_end effect old.core) (straight_core effect old.core) old.port old end new =
     straight flat_accesses effect old new end runs.2
     (Carries-fetched flat_accesses instruction old new end runs.1.in_range (λ answer middle fetch. (fetch.0 ∙ runs.1.word, fetch.1)) step) in
-    let P : StepEnd → Type 0 = λ e. GoesOn e (RunsTo old.memory steps (straight_core effect old.core)) steps bytes in
-    let Q : Processor → Type 0 = λ core. GoesOn end (RunsTo old.memory steps core) steps bytes in
-    let R : Flat → Type 0 = λ memory. GoesOn end (RunsTo memory steps new.core) steps bytes in
+    let P : StepEnd → Type 0 = λ e. ReleasesOn e (RunsTo old.memory steps (straight_core effect old.core)) steps bytes in
+    let Q : Processor → Type 0 = λ core. ReleasesOn end (RunsTo old.memory steps core) steps bytes in
+    let R : Flat → Type 0 = λ memory. ReleasesOn end (RunsTo memory steps new.core) steps bytes in
     record {
       memory = row.memory;
       port = row.port;
@@ -107,7 +107,7 @@ still_runs memory steps index core bytes runs =
           absurd (subst P none runs)
     ]
 
--- behind a step the processor still releases what is left
+-- after a step the processor still releases what is left
 pub record Left (steps index : ℕ) (old new : Machine Flat) (end : StepEnd) (before now : Option (List ℕ)) (bytes : List ℕ) : Type 0 where
   pub sent : List ℕ
   pub left : List ℕ
@@ -169,15 +169,15 @@ after_exit steps index old new before now bytes left =
     let P : List ℕ → Type 0 = λ all. Appends before now all in
     (subst P (sym (left.split ∙ ap (λ l. left.sent ++ l) done.0 ∙ append-nil left.sent)) left.taken, omega arith)
 
--- behind the last step nothing runs
-pub never_behind : (memory : Flat) (steps index : ℕ) (core : Processor) (before now : Option (List ℕ)) (bytes : List ℕ)
+-- after the last step nothing runs
+pub never_after : (memory : Flat) (steps index : ℕ) (core : Processor) (before now : Option (List ℕ)) (bytes : List ℕ)
     → steps ≤ index → Progress memory steps index core before now bytes → ⊥
-never_behind memory steps index core before now bytes behind progress =
+never_after memory steps index core before now bytes beyond progress =
     let below : index < steps = still_runs memory steps index core progress.left progress.runs in
     absurd (omega arith)
 
 -- a step of such code ends in no other way
-no_other : (end : StepEnd) (later : List ℕ → Type 0) (steps : ℕ) (bytes : List ℕ) → GoesOn end later steps bytes → (end ≡ Next → ⊥) → ((byte : ℕ) → end ≡ Released byte → ⊥) → (end ≡ Exit → ⊥) → ⊥
+no_other : (end : StepEnd) (later : List ℕ → Type 0) (steps : ℕ) (bytes : List ℕ) → ReleasesOn end later steps bytes → (end ≡ Next → ⊥) → ((byte : ℕ) → end ≡ Released byte → ⊥) → (end ≡ Exit → ⊥) → ⊥
 no_other Next later steps bytes goes next released exits = next refl
 no_other (Released byte) later steps bytes goes next released exits = released byte refl
 no_other Exit later steps bytes goes next released exits = exits refl

@@ -2,7 +2,6 @@
 use Rattle.std.proofs.Common.{◌≡◌, ℕ, ◌+◌, ◌%◌, cond, Bool, true, false, not, ◌&&◌, List, [], ◌∷◌, ◌++◌, map, Option, None, Some, refl, sym, ◌∙◌, ap, subst, append_assoc, append-nil, eq-eqb}
 use Rattle.std.specs.Prelude.{codes, is_some}
 use Rattle.std.specs.Str.{bytes_eq}
-use Rattle.arrayvec.specs.ArrayString.{ArrayString}
 use Rattle.c_grammar.specs.declared.expr.Expr.{Expr}
 use Rattle.c_grammar.specs.declared.expr.Expr.TheVariants as expr
 use Rattle.c_grammar.specs.declared.expr.Expr.TheOpen.{Expr-F}
@@ -23,8 +22,8 @@ use Rattle.c_semantics.specs.ResolvedTree as Tree
 use Rattle.c_semantics.specs.States.{Setting, State, Ended, Outcome, GoesOn, then, tick, releasing}
 use Rattle.c_semantics.specs.Meaning.{Calls, Flow, Returned, result_of, Meaning, meaning, meaning_of, first_state, no_calls, mean_alone}
 use Rattle.regions.specs.LooseClasses.{nothing_loose}
-use Rattle.c_resolver.specs.Resolving.{Resolved, expr_step, typed, ResolvedStmt, stmt_step, resolved, body_in, number_of, main_token, program_in}
-use Rattle.aegis_run.specs.Literals.{number_in, released_by, returns_literal, body_literals, is_int, is_nothing, is_main, item_literals, items_literals, literals_of}
+use Rattle.c_resolver.specs.Resolving.{Resolved, expr_step, typed, ResolvedStmt, stmt_step, resolved, body_in, function_number, main_token, plain_program}
+use Rattle.aegis_run.specs.Literals.{literal_in, released_by, returns_literal, body_literals, answers_int, takes_nothing, is_plain_main, item_literals, items_literals, literals_of}
 use Rattle.aegis_run.proofs.LengthLemmas.{parts, where_true}
 
 -- ---- the forms of these expressions and statements
@@ -37,7 +36,7 @@ record IsNumber (e : Expr) (number : ℕ) : Type 0 where
 same_number : (value number : ℕ) → Some value ≡ Some number → value ≡ number
 same_number value number same = cc
 
-number_form : (e : Expr) (number : ℕ) → number_in e ≡ Some number → IsNumber e number
+number_form : (e : Expr) (number : ℕ) → literal_in e ≡ Some number → IsNumber e number
 number_form (expr.Number value unsigned token) number same =
     record { unsigned = unsigned; token = token; form = ap (λ v. expr.Number v unsigned token) (same_number value number same) }
 number_form (expr.Name _ _) number same = absurd cc
@@ -52,7 +51,7 @@ record IsRelease (x : Stmt) (number : ℕ) : Type 0 where
   value : Expr
   token : ℕ
   form : x ≡ stmt.Release value token
-  literal : number_in value ≡ Some number
+  literal : literal_in value ≡ Some number
 
 release_form : (x : Stmt) (number : ℕ) → released_by x ≡ Some number → IsRelease x number
 release_form (stmt.Release value token) number same = record { value = value; token = token; form = refl; literal = same }
@@ -74,7 +73,7 @@ record IsReturn (x : Stmt) : Type 0 where
   token : ℕ
   number : ℕ
   form : x ≡ stmt.Return (Some value) token
-  literal : number_in value ≡ Some number
+  literal : literal_in value ≡ Some number
 
 some_number : (found : Option ℕ) → is_some found ≡ true → (number : ℕ) × (found ≡ Some number)
 some_number None same = absurd cc
@@ -82,7 +81,7 @@ some_number (Some number) same = (number, refl)
 
 return_form : (x : Stmt) → returns_literal x ≡ true → IsReturn x
 return_form (stmt.Return (Some value) token) same =
-    let found = some_number (number_in value) same in
+    let found = some_number (literal_in value) same in
     record { value = value; token = token; number = found.0; form = refl; literal = found.1 }
 return_form (stmt.Return None token) same = absurd cc
 return_form (stmt.Block' _ _ _) same = absurd cc
@@ -106,7 +105,7 @@ typed_number fs number unsigned token known =
     ap (λ e. typed fs e known) (sym (expr.rolls-Number number unsigned token))
     ∙ ap (λ r. r known) (fold-roll-Expr Resolved (expr_step fs) (Expr-F.Number number unsigned token))
 
-typed_literal : (fs : List ℕ) (e : Expr) (number : ℕ) (known : List Declaration) → number_in e ≡ Some number → (typed fs e known).expr ≡ Tree.Number number
+typed_literal : (fs : List ℕ) (e : Expr) (number : ℕ) (known : List Declaration) → literal_in e ≡ Some number → (typed fs e known).expr ≡ Tree.Number number
 typed_literal fs e number known same =
     let is = number_form e number same in
     ap (λ e. (typed fs e known).expr) is.form ∙ ap (λ t. t.expr) (typed_number fs number is.unsigned is.token known)
@@ -152,7 +151,7 @@ record Leaves (state : State) (numbers : List ℕ) (outcome : Outcome Flow) : Ty
   left : outcome ≡ GoesOn (Returned value) after
   bytes : after.traffic.bytes ≡ state.traffic.bytes ++ low_bytes numbers
 
--- behind a return nothing runs
+-- after a return nothing runs
 return_leaves : (setting : Setting) (calls : Calls) (number : ℕ) (later : Tree.Stmt) (state : State)
     → Leaves state [] (meaning setting calls (Tree.Then (Tree.Return (Some (Tree.Number number))) later) state)
 return_leaves setting calls number later state = record {
@@ -162,7 +161,7 @@ return_leaves setting calls number later state = record {
   bytes = sym (append-nil state.traffic.bytes);
 }
 
--- the state behind a release
+-- the state after a release
 abbrev released : Setting → ℕ → State → State
 released setting number state = releasing number (tick setting (tick setting state))
 
@@ -220,17 +219,17 @@ ends state literals outcome none leaves =
     subst P (sym leaves.left) (refl, leaves.bytes ∙ empty)
 
 -- the number of a function that is alone
-number_alone : (token : ℕ) → number_of (token ∷ []) token ≡ 0
+number_alone : (token : ℕ) → function_number (token ∷ []) token ≡ 0
 number_alone token = ap (λ b. cond b 0 (1 + 0)) (eq-eqb token token refl)
 
 -- it is found by its name
-main_alone : (private : Bool) (result : Kind3) (name : ArrayString) (parameters : List Parameter) (body : List Stmt) (token : ℕ)
-    → bytes_eq name.bytes (codes "main") ≡ true → main_token (declarations_of (item.Function private result name parameters body token ∷ [])) ≡ token
+main_alone : (private : Bool) (result : Kind3) (name : List ℕ) (parameters : List Parameter) (body : List Stmt) (token : ℕ)
+    → bytes_eq name (codes "main") ≡ true → main_token (declarations_of (item.Function private result name parameters body token ∷ [])) ≡ token
 main_alone private result name parameters body token same = rw same refl
 
 -- the tree of a program with these items
 abbrev tree_in : List Item → Tree.Program
-tree_in items = program_in (record { items = items })
+tree_in items = plain_program (record { items = items })
 
 -- a state in which nothing was released
 abbrev started : List Item → List ℕ → ℕ → State
@@ -240,7 +239,7 @@ abbrev alone : Setting
 alone = record { is_loose = nothing_loose; is_noted = true }
 
 -- A function that is alone is called by its number.
-call_alone : (private : Bool) (result : Kind3) (name : ArrayString) (body : List Stmt) (token : ℕ) (literals input : List ℕ) (turns : ℕ)
+call_alone : (private : Bool) (result : Kind3) (name : List ℕ) (body : List Stmt) (token : ℕ) (literals input : List ℕ) (turns : ℕ)
     → (tree_in (item.Function private result name [] body token ∷ [])).main ≡ 0 → body_literals body ≡ Some literals
     → IsRun literals (mean_alone (tree_in (item.Function private result name [] body token ∷ [])) input turns)
 call_alone private result name body token literals input turns first same =
@@ -257,7 +256,7 @@ record MainIs (named : Bool) (parameters : List Parameter) : Type 0 where
   named_is : named ≡ true
   parameters_are : parameters ≡ []
 
-main_form : (private : Bool) (result : Kind3) (named : Bool) (parameters : List Parameter) → (not private && is_int result && named && is_nothing parameters) ≡ true → MainIs named parameters
+main_form : (private : Bool) (result : Kind3) (named : Bool) (parameters : List Parameter) → (not private && answers_int result && named && takes_nothing parameters) ≡ true → MainIs named parameters
 main_form false Int true [] same = record { named_is = refl; parameters_are = refl }
 main_form true result named parameters same = absurd cc
 main_form false Unsigned named parameters same = absurd cc
@@ -270,10 +269,10 @@ item_means (item.Object class unsigned name length token) literals input turns s
 item_means (item.Constant unsigned name length values braces token) literals input turns same = absurd cc
 item_means (item.Untrusted name token) literals input turns same = absurd cc
 item_means (item.Function private result name parameters body token) literals input turns same =
-    let is = main_form private result (bytes_eq name.bytes (codes "main")) parameters (chosen (is_main private result name parameters) (body_literals body) literals same) in
-    let found = where_true (is_main private result name parameters) (body_literals body) literals same in
-    let number : number_of (token ∷ []) (main_token (declarations_of (item.Function private result name [] body token ∷ []))) ≡ 0 =
-    ap (number_of (token ∷ [])) (main_alone private result name [] body token is.named_is) ∙ number_alone token in
+    let is = main_form private result (bytes_eq name (codes "main")) parameters (chosen (is_plain_main private result name parameters) (body_literals body) literals same) in
+    let found = where_true (is_plain_main private result name parameters) (body_literals body) literals same in
+    let number : function_number (token ∷ []) (main_token (declarations_of (item.Function private result name [] body token ∷ []))) ≡ 0 =
+    ap (function_number (token ∷ [])) (main_alone private result name [] body token is.named_is) ∙ number_alone token in
     let P : List Parameter → Type 0 = λ parameters. IsRun literals (mean_alone (tree_in (item.Function private result name parameters body token ∷ [])) input turns) in
     subst P (sym is.parameters_are) (call_alone private result name body token literals input turns number found)
 
@@ -284,6 +283,6 @@ items_mean (x ∷ y ∷ ys) literals input turns same = absurd cc
 
 -- a program of literal releases ends on any input and with no turn of a loop, and has released the low byte of each
 pub literals_mean : (p : Program) (literals input : List ℕ) (turns : ℕ) → literals_of p ≡ Some literals
-    → ((mean_alone (program_in p) input turns).end ≡ Ended)
-    × ((mean_alone (program_in p) input turns).traffic.bytes ≡ map (λ n. n % 256) literals)
+    → ((mean_alone (plain_program p) input turns).end ≡ Ended)
+    × ((mean_alone (plain_program p) input turns).traffic.bytes ≡ map (λ n. n % 256) literals)
 literals_mean p literals input turns same = items_mean p.items literals input turns same

@@ -2,7 +2,7 @@
 use Rattle.std.proofs.Common.{◌≡◌, ℕ, List, [], Option, Some, refl, sym, subst}
 use Rattle.aegis_edge.specs.Folder.{Files}
 use Rattle.c_grammar.specs.declared.item.Program.{Program}
-use Rattle.c_resolver.specs.Resolving.{program_in}
+use Rattle.c_resolver.specs.Resolving.{plain_program}
 use Rattle.c_semantics.specs.Meaning.{Meaning, mean_alone}
 use Rattle.aegis_run.specs.declared.ends.File.{File}
 use Rattle.aegis_run.specs.declared.ends.File.TheVariants.{Script, Input}
@@ -55,7 +55,7 @@ pub ready : (files : Option Files) (names : RunNames) (p : Program) (literals in
 ready files names p literals input accepted found script input_read =
     let command : Command = asks.Run names in
     let means = literals_mean p literals input (turns_for command) found in (
-      mean_alone (program_in p) input (turns_for command),
+      mean_alone (plain_program p) input (turns_for command),
       record { program = p; accepted = accepted; suits = (literals, found); script_read = script; input = input; input_read = input_read; meaning_is = refl },
       means.0,
       means.1,

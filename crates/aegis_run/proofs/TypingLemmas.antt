@@ -5,15 +5,15 @@ use Rattle.c_types.specs.declared.error.TypeError.{TypeError}
 use Rattle.c_types.specs.declared.error.TypeError.TheVariants as type
 use Rattle.c_types.specs.declared.site.Rule.{Rule}
 use Rattle.c_types.specs.declared.site.Rule.TheVariants as rule
-use Rattle.c_types.specs.TypingRules.{IsFirst, rank}
-use Rattle.c_types.specs.Checked.{IsTyped, IsRefused, KeepsRules, error_at, has_main}
+use Rattle.c_types.specs.TypingRules.{IsFirst, rule_order}
+use Rattle.c_types.specs.Checked.{IsTyped, IsRefusedByTypes, KeepsRules, error_at, has_main}
 
 -- a type error is the first violation, or there is no `main`
 data Shown (p : Program) : TypeError → Type 0 where
   violated : (at : ℕ) (rule : Rule) → IsFirst p at rule → Shown p (error_at at rule)
   no_main : KeepsRules p → has_main p.items ≡ false → Shown p type.NoMain
 
-shown : (p : Program) (error : TypeError) → error ≢ type.OutOfMemory → IsRefused p error → Shown p error
+shown : (p : Program) (error : TypeError) → error ≢ type.OutOfMemory → IsRefusedByTypes p error → Shown p error
 shown p (type.Unknown at) other refused = violated at rule.Unknown refused
 shown p (type.Twice at) other refused = violated at rule.Twice refused
 shown p (type.Recursive at) other refused = violated at rule.Recursive refused
@@ -30,10 +30,10 @@ typed_shown p error typed (violated at rule first) = typed.rules at rule first.v
 typed_shown p error typed (no_main keeps none) = let both : true ≡ false = sym typed.main ∙ none in cc
 
 -- a program that keeps the rules is not refused
-pub typed_refused : (p : Program) (error : TypeError) → error ≢ type.OutOfMemory → IsTyped p → IsRefused p error → ⊥
+pub typed_refused : (p : Program) (error : TypeError) → error ≢ type.OutOfMemory → IsTyped p → IsRefusedByTypes p error → ⊥
 typed_refused p error other typed refused = typed_shown p error typed (shown p error other refused)
 
-same_rank : (a b : Rule) → rank a ≡ rank b → a ≡ b
+same_rank : (a b : Rule) → rule_order a ≡ rule_order b → a ≡ b
 same_rank rule.Unknown rule.Unknown same = refl
 same_rank rule.Unknown rule.Twice same = absurd (omega (arith, same))
 same_rank rule.Unknown rule.Recursive same = absurd (omega (arith, same))
@@ -109,8 +109,8 @@ first_once p a b r s one two = elim (one.least b s two.violates) [
   | inr equal ↦ elim (two.least a r one.violates) [
     | inl above ↦ let here : a ≡ b = equal.0 in absurd (omega (arith, above, here))
     | inr other ↦
-        let le : rank r ≤ rank s = equal.1 in
-        let ge : rank s ≤ rank r = other.1 in
+        let le : rule_order r ≤ rule_order s = equal.1 in
+        let ge : rule_order s ≤ rule_order r = other.1 in
         let ranked : r ≡ s = same_rank r s (omega (arith, le, ge)) in
         ap (λ at. error_at at r) equal.0 ∙ ap (error_at b) ranked
   ]
@@ -122,5 +122,5 @@ two_shown p a b (violated at rule first) (no_main keeps none) = absurd (keeps at
 two_shown p a b (no_main keeps none) (violated at rule first) = absurd (keeps at rule first.violates)
 two_shown p a b (no_main keeps none) (no_main keeps' none') = refl
 
-pub one_type_error : (p : Program) (a b : TypeError) → a ≢ type.OutOfMemory → b ≢ type.OutOfMemory → IsRefused p a → IsRefused p b → a ≡ b
+pub one_type_error : (p : Program) (a b : TypeError) → a ≢ type.OutOfMemory → b ≢ type.OutOfMemory → IsRefusedByTypes p a → IsRefusedByTypes p b → a ≡ b
 one_type_error p a b q r first second = two_shown p a b (shown p a q first) (shown p b r second)

@@ -1,4 +1,4 @@
--- Why the program answers what it answers: the words, and what a folder tells of the files that they name.
+-- Promise: why the program answers what it answers: the words, and what a folder tells of the files that they name.
 use Rattle.std.specs.Prelude.{◌≡◌, ◌≢◌, ◌⊎◌, ℕ, ◌+◌, ◌*◌, ◌<◌, ◌≤◌, List, [], length, Option, None, Some, IfSome}
 use Rattle.aegis_num.specs.declared.limits.TheConstants.{MAX_SOURCE_BYTES, MAX_SCRIPT_BYTES, MAX_INPUT_BYTES}
 use Rattle.aegis_edge.specs.Faults.{Rose}
@@ -6,20 +6,22 @@ use Rattle.aegis_edge.specs.Folder.{Files, HoldsWhole, content_of}
 use Rattle.aegis_edge.specs.Sink.{Appends, AppendsFront}
 use Rattle.c_evaluator.specs.MachineStates.{end_of}
 use Rattle.c_grammar.specs.declared.item.Program.{Program}
-use Rattle.c_resolver.specs.Resolving.{program_in}
+use Rattle.c_resolver.specs.Resolving.{plain_program}
 use Rattle.c_semantics.specs.Meaning.{Meaning, mean_alone}
 use Rattle.c_semantics.specs.States as outcome
 use Rattle.c_reader.specs.declared.error.SyntaxError.TheVariants as syntax
 use Rattle.c_token.specs.declared.kinds.TokenError.TheVariants as token
 use Rattle.c_types.specs.declared.error.TypeError.TheVariants as type
-use Rattle.c_types.specs.Checked.{IsTyped}
+use Rattle.c_types.specs.Checked.{IsTyped, IsRefusedByTypes}
+use Rattle.c_types.specs.declared.error.TypeError.{TypeError}
 use Rattle.aegis_run.specs.declared.ends.File.{File}
 use Rattle.aegis_run.specs.declared.ends.File.TheVariants.{Source, Script, Input}
 use Rattle.aegis_run.specs.declared.ends.End.TheVariants as run
 use Rattle.aegis_run.specs.declared.ends.TopEnd.{TopEnd}
 use Rattle.aegis_run.specs.declared.ends.TopEnd.TheVariants.{Run, Mean, Usage, TooLong, Token, Syntax, Typing, NotYet, NoFile, ReadFault, WriteFault, OutOfMemory}
 use Rattle.aegis_run.specs.Literals.{literals_of}
-use Rattle.c_text.specs.Texts.{IsText, HasTokenFault, HasSyntaxFault, HasTypeFault}
+use Rattle.c_grammar.specs.TokenPrograms.{HasProgram}
+use Rattle.c_reader.specs.SourceText.{HasTokenFault, HasSyntaxFault}
 use Rattle.aegis_run.specs.Words.{RunNames, Command}
 use Rattle.aegis_run.specs.Words as asks
 
@@ -52,7 +54,7 @@ pub record IsRead (files : Option Files) (name : List ℕ) (file : File) (text :
 pub record IsAccepted (files : Option Files) (name : List ℕ) (program : Program) : Type 0 where
   pub text : List ℕ
   pub read : IsRead files name Source text
-  pub is_text : IsText text program
+  pub is_text : HasProgram text program
   pub typed : IsTyped program
 
 -- a command can use a program: `run` those that release literals, `mean` all
@@ -94,6 +96,12 @@ Lacks command files file before now = IsReached files command file × IsAbsent f
 abbrev pub Exceeds : Command → Option Files → File → ℕ → ℕ → Type 0
 Exceeds command files file before now = IsReached files command file × IsOverlong files (name_for command file) file before now
 
+-- the program of the text breaks a typing rule, or has no `main`
+pub record HasTypeFault (text : List ℕ) (error : TypeError) : Type 0 where
+  pub program : Program
+  pub is_text : HasProgram text program
+  pub refused : IsRefusedByTypes program error
+
 -- why a text is no program that keeps the typing rules, and which answer says so
 abbrev pub SourceFault : List ℕ → TopEnd → Type 0
 SourceFault text (Token token.OutOfMemory) = ⊥
@@ -134,14 +142,14 @@ pub record MeansFrom (files : Option Files) (command : Command) (meaning : Meani
   pub script_read : PassesScript files command
   pub input : List ℕ
   pub input_read : IsRead files (name_for command Input) Input input
-  pub meaning_is : mean_alone (program_in program) input (turns_for command) ≡ meaning
+  pub meaning_is : mean_alone (plain_program program) input (turns_for command) ≡ meaning
 
--- the same, of a run
+-- a run means this
 abbrev pub RunMeans : Option Files → Command → Meaning → Type 0
 RunMeans files (asks.Run names) meaning = MeansFrom files (asks.Run names) meaning
 RunMeans files (asks.Mean names) meaning = ⊥
 
--- the same, of a `mean`
+-- a `mean` means this
 abbrev pub MeanMeans : Option Files → Command → Meaning → Type 0
 MeanMeans files (asks.Run names) meaning = ⊥
 MeanMeans files (asks.Mean names) meaning = MeansFrom files (asks.Mean names) meaning
@@ -163,7 +171,7 @@ CauseOf command files before now WriteFault = (meaning : Meaning) × MeanMeans f
 CauseOf command files before now (Run end) = (meaning : Meaning) × RunMeans files command meaning
 CauseOf command files before now (Mean end) = (meaning : Meaning) × MeanMeans files command meaning × (end_of end ≡ meaning.end)
 
--- the same with the words, which may be no command
+-- why an answer comes to words, which may be no command
 abbrev pub Cause : Option Command → Option Files → ℕ → ℕ → TopEnd → Type 0
 Cause None files before now end = end ≡ Usage
 Cause (Some command) files before now end = CauseOf command files before now end

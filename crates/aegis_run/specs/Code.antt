@@ -1,4 +1,4 @@
--- The compiled code of a source, and what the processor does on code alone.
+-- Device: the compiled code of a source, and what the processor does on code alone.
 use Rattle.std.specs.Prelude.{◌≡◌, ◌⊎◌, ℕ, zero, suc, ◌-◌, ◌/◌, ◌%◌, List, [], ◌∷◌, ◌++◌, length, map, false, replicate, Option, Ok}
 use Rattle.std.specs.List.{flat_map}
 use Rattle.aegis_edge.specs.Sink.{Appends, AppendsFront}
@@ -28,8 +28,8 @@ abbrev pub release_code : ℕ → List ℕ
 release_code literal = map encoding (Ori 3 0 (literal % 65536) ∷ Cust1 6 ∷ [])
 
 -- the program of a source that releases these literals: each in turn, and then the exit
-abbrev pub program_of : List ℕ → List ℕ
-program_of literals = flat_map release_code literals ++ encoding (Cust1 1) ∷ []
+abbrev pub release_program : List ℕ → List ℕ
+release_program literals = flat_map release_code literals ++ encoding (Cust1 1) ∷ []
 
 -- how many words of the last block are left
 abbrev pub words_left : ℕ → ℕ
@@ -37,7 +37,7 @@ words_left count = (16 - count % 16) % 16
 
 -- the code fills whole blocks, the last one with instructions that do nothing
 abbrev pub code_of : List ℕ → List ℕ
-code_of literals = program_of literals ++ replicate (words_left (length (program_of literals))) (encoding (Nop 0))
+code_of literals = release_program literals ++ replicate (words_left (length (release_program literals))) (encoding (Nop 0))
 
 -- the memory holds this code, in blocks of code alone
 pub record HoldsCode (memory : Flat) (code : List ℕ) : Type 0 where
@@ -57,7 +57,7 @@ IsStraight (Write d value) = Unit {0}
 IsStraight (Secure f) = (f ≡ 6) ⊎ (f ≡ 1)
 IsStraight effect = ⊥
 
--- how a step of such an effect ends, and the processor behind it
+-- how a step of such an effect ends, and the processor after it
 abbrev pub straight_end : Effect → Processor → StepEnd
 straight_end (Secure f) core = secure_end (secure_of f) core
 straight_end effect core = Next
@@ -71,18 +71,18 @@ pub record Fetches (memory : Flat) (core : Processor) (instruction : Instr) : Ty
   pub in_range : IsInRange instruction
   pub word : answered (word_refusal memory.layout Ptr Fetch core.pc) (flat_word memory core.pc) ≡ Ok (encoding instruction)
 
--- what is left to release, and in how many steps, behind a step that ends so
-abbrev pub GoesOn : StepEnd → (List ℕ → Type 0) → ℕ → List ℕ → Type 0
-GoesOn Next later steps bytes = later bytes
-GoesOn (Released byte) later steps bytes = (rest : List ℕ) × (bytes ≡ byte ∷ rest) × later rest
-GoesOn Exit later steps bytes = (bytes ≡ []) × (steps ≡ 0)
-GoesOn end later steps bytes = ⊥
+-- what is left to release, and in how many steps, after a step that ends so
+abbrev pub ReleasesOn : StepEnd → (List ℕ → Type 0) → ℕ → List ℕ → Type 0
+ReleasesOn Next later steps bytes = later bytes
+ReleasesOn (Released byte) later steps bytes = (rest : List ℕ) × (bytes ≡ byte ∷ rest) × later rest
+ReleasesOn Exit later steps bytes = (bytes ≡ []) × (steps ≡ 0)
+ReleasesOn end later steps bytes = ⊥
 
 -- from this state the processor releases these bytes in order, and exits, in so many steps
 abbrev pub RunsTo : Flat → ℕ → Processor → List ℕ → Type 0
 RunsTo memory zero core bytes = ⊥
 RunsTo memory (suc steps) core bytes = (instruction : Instr) × Fetches memory core instruction × IsStraight (effect_of instruction core)
-    × GoesOn (straight_end (effect_of instruction core) core) (RunsTo memory steps (straight_core (effect_of instruction core) core)) steps bytes
+    × ReleasesOn (straight_end (effect_of instruction core) core) (RunsTo memory steps (straight_core (effect_of instruction core) core)) steps bytes
 
 -- on a memory that holds the code, the processor releases these bytes from its start, and exits, in so many steps
 abbrev pub CodeRunsTo : List ℕ → ℕ → List ℕ → Type 0
@@ -93,7 +93,7 @@ abbrev pub Delivers : End → Option (List ℕ) → Option (List ℕ) → List �
 Delivers Ended old new bytes = Appends old new bytes
 Delivers WriteFault old new bytes = AppendsFront old new bytes
 
--- what an answer behind a compiled source put into a sink, of the bytes that the source releases
+-- what an answer after a compiled source put into a sink, of the bytes that the source releases
 abbrev pub SendsOnly : TopEnd → Option (List ℕ) → Option (List ℕ) → List ℕ → Type 0
 SendsOnly (Run end) old new bytes = Delivers end old new bytes
 SendsOnly OutOfMemory old new bytes = new ≡ old

@@ -1,7 +1,6 @@
--- The programs that are run so far: `main` releases literals one after another, and returns a literal.
+-- Promise: the programs that are run so far: `main` releases literals one after another, and returns a literal.
 use Rattle.std.specs.Prelude.{ℕ, ◌%◌, Bool, true, false, not, ◌&&◌, List, [], ◌∷◌, map, codes, Option, Some, None, is_some, if◌then◌else◌}
 use Rattle.std.specs.Str.{bytes_eq}
-use Rattle.arrayvec.specs.ArrayString.{ArrayString}
 use Rattle.c_grammar.specs.declared.expr.Expr.{Expr}
 use Rattle.c_grammar.specs.declared.expr.Expr.TheVariants as expr
 use Rattle.c_grammar.specs.declared.stmt.Stmt.{Stmt}
@@ -14,18 +13,18 @@ use Rattle.c_grammar.specs.declared.item.Item.TheVariants as item
 use Rattle.c_grammar.specs.declared.item.Program.{Program}
 
 -- the number that an expression is, if it is a literal
-abbrev pub number_in : Expr → Option ℕ
-number_in (expr.Number value unsigned token) = Some value
-number_in other = None
+abbrev pub literal_in : Expr → Option ℕ
+literal_in (expr.Number value unsigned token) = Some value
+literal_in other = None
 
 -- the number that a statement releases, if that is a literal
 abbrev pub released_by : Stmt → Option ℕ
-released_by (stmt.Release value token) = number_in value
+released_by (stmt.Release value token) = literal_in value
 released_by other = None
 
 -- the statement returns a literal
 abbrev pub returns_literal : Stmt → Bool
-returns_literal (stmt.Return (Some value) token) = is_some (number_in value)
+returns_literal (stmt.Return (Some value) token) = is_some (literal_in value)
 returns_literal other = false
 
 -- a number before others, if both are there
@@ -40,21 +39,21 @@ body_literals [] = None
 body_literals (last ∷ []) = if returns_literal last then Some [] else None
 body_literals (statement ∷ second ∷ later) = in_front (released_by statement) (body_literals (second ∷ later))
 
-abbrev pub is_int : Kind3 → Bool
-is_int Int = true
-is_int Unsigned = false
-is_int Void = false
+abbrev pub answers_int : Kind3 → Bool
+answers_int Int = true
+answers_int Unsigned = false
+answers_int Void = false
 
-abbrev pub is_nothing : List Parameter → Bool
-is_nothing [] = true
-is_nothing (first ∷ later) = false
+abbrev pub takes_nothing : List Parameter → Bool
+takes_nothing [] = true
+takes_nothing (first ∷ later) = false
 
 -- a function `main` that answers int, takes nothing and is not private
-abbrev pub is_main : Bool → Kind3 → ArrayString → List Parameter → Bool
-is_main private result name parameters = not private && is_int result && bytes_eq name.bytes (codes "main") && is_nothing parameters
+abbrev pub is_plain_main : Bool → Kind3 → List ℕ → List Parameter → Bool
+is_plain_main private result name parameters = not private && answers_int result && bytes_eq name (codes "main") && takes_nothing parameters
 
 abbrev pub item_literals : Item → Option (List ℕ)
-item_literals (item.Function private result name parameters body token) = if is_main private result name parameters then body_literals body else None
+item_literals (item.Function private result name parameters body token) = if is_plain_main private result name parameters then body_literals body else None
 item_literals other = None
 
 -- the literals that a program releases, in order, if it is such a function alone

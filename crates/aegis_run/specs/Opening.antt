@@ -1,4 +1,4 @@
--- Why one file is not read, why a text is refused, and what the code keeps of the words.
+-- Device: why one file is not read, why a text is refused, and what the code keeps of the words.
 use Rattle.std.specs.Prelude.{◌≡◌, ℕ, List, Option, None}
 use Rattle.aegis_edge.specs.Faults.{Rose}
 use Rattle.aegis_edge.specs.Folder.{Files}
@@ -57,7 +57,7 @@ Writes end = ⊥
 abbrev pub IsReady : Option Files → Command → List ℕ → Type 0
 IsReady files command bytes = (meaning : Meaning) × RunMeans files command meaning × (meaning.end ≡ outcome.Ended) × (meaning.traffic.bytes ≡ bytes)
 
--- what an answer behind a meaning put into a sink
+-- what an answer after a meaning put into a sink
 abbrev pub SendsMeaning : TopEnd → Option (List ℕ) → Option (List ℕ) → Meaning → Type 0
 SendsMeaning (Mean end) old new meaning = (end_of end ≡ meaning.end) × Appends old new meaning.traffic.bytes
 SendsMeaning WriteFault old new meaning = AppendsFront old new meaning.traffic.bytes

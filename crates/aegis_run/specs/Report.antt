@@ -1,4 +1,4 @@
--- The exit status of an answer, and its line on the notes.
+-- Promise: the exit status of an answer, and its line on the notes.
 use Rattle.std.specs.Prelude.{ℕ, Bool, true, false, List, ◌++◌, codes, decimal}
 use Rattle.aegis_run.specs.declared.ends.File.{File}
 use Rattle.aegis_run.specs.declared.ends.File.TheVariants.{Source, Script, Input}
@@ -83,7 +83,7 @@ meaning_line (mean.Index at) = place_line (codes "index token ") at (codes "\n")
 meaning_line (mean.Divide at) = place_line (codes "divide token ") at (codes "\n")
 meaning_line mean.Turns = codes "turns\n"
 
--- the line of an answer, and of a run behind so many instructions
+-- the line of an answer, and of a run after so many instructions
 abbrev pub line_of : TopEnd → ℕ → List ℕ
 line_of (Run run.Ended) retired = codes "ended retired " ++ decimal retired ++ codes " events 0\n"
 line_of (Run run.WriteFault) retired = codes "write fault\n"

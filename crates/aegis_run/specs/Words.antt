@@ -1,4 +1,4 @@
--- The table of commands: which words on the command line mean what.
+-- Promise: the table of commands: which words on the command line mean what.
 use Rattle.std.specs.Prelude.{ℕ, ◌==◌, ◌&&◌, nat_le, Bool, if◌then◌else◌, List, [], ◌∷◌, length, codes, map, String, string_bytes, Option, None, Some}
 use Rattle.std.specs.declared.alloc.Global.{Global}
 use Rattle.std.specs.List.{list_all}

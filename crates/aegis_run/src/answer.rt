@@ -2,7 +2,7 @@
 ghost use Rattle.std.specs.Prelude.{◌≡◌, ◌≢◌, ◌+◌, ◌*◌, ◌^◌, ◌<◌, ◌≤◌, None, Some, length, IfOk, OnErr};
 ghost use Rattle.std.specs.List.{AllByRecursion};
 ghost use Rattle.aegis_edge.specs.Faults.{Rose};
-ghost use Rattle.c_resolver.specs.Resolving.{program_in};
+ghost use Rattle.c_resolver.specs.Resolving.{plain_program};
 ghost use Rattle.c_semantics.specs.Meaning.{mean_alone};
 ghost use Rattle.aegis_run.specs.Words.{command_in};
 ghost use Rattle.aegis_run.specs.Words as asks;
@@ -22,7 +22,7 @@ use aegis_num::limits::MAX_SOURCE_BYTES;
 use c_meaning::mean;
 use std::alloc::Global;
 
-/// An answer, and behind how many instructions its run ended, 0 where none was started.
+/// An answer, and after how many instructions its run ended, 0 where none was started.
 #[derive(Clone, Copy, Debug)]
 pub struct Outcome {
     pub end: TopEnd,
@@ -128,7 +128,7 @@ fn write_meaning<K: Sink>(alloc: Global, accepted: &Accepted, turns: u64, out: &
     requires { K.limit out.old ≡ None }
 
     ensures sends { SendsMeaning result (K.written out.old) (K.written out.new)
-        (mean_alone (program_in accepted.now.program) accepted.now.input.items turns) }
+        (mean_alone (plain_program accepted.now.program) accepted.now.input.items turns) }
     ensures fault { IsWriteFault result → Rose (K.faults out.old) (K.faults out.new) }
     ensures steady { (IsWriteFault result → ⊥) → K.faults out.new ≡ K.faults out.old }
 {

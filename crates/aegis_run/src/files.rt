@@ -1,10 +1,11 @@
 //! The files that a command reads, in their order.
 ghost use Rattle.std.specs.Prelude.{◌≡◌, ◌≢◌, ◌≤◌, ◌*◌, ℕ, List, Some, length, IfOk, IfErr, OnOk};
-ghost use Rattle.c_grammar.specs.TokenPrograms.{AreProgram};
-ghost use Rattle.c_types.specs.Checked.{IsRead as IsReadProgram, IsTyped};
+ghost use Rattle.c_grammar.specs.TokenPrograms.{AreProgram, HasProgram};
+ghost use Rattle.c_types.specs.Checked.{IsReadProgram, IsTyped};
 ghost use Rattle.aegis_run.specs.declared.ends.File.TheVariants as file;
 ghost use Rattle.aegis_run.specs.Answer.{IsRead, IsAccepted, AreTold, limit_for, CauseOf};
-ghost use Rattle.c_text.specs.Texts.{IsText, HasTokens, kinds_in};
+ghost use Rattle.c_reader.specs.SourceText.{HasTokens};
+ghost use Rattle.c_token.specs.PlainText.{kinds_of};
 ghost use Rattle.aegis_run.specs.Literals.{literals_of as literals_are, released};
 ghost use Rattle.aegis_run.specs.Opening.{AcceptCause, OpenCause, NotRunCause, IsReady, Writes, names_of, mean_names_of};
 ghost use Rattle.aegis_run.specs.Words as asks;
@@ -98,7 +99,7 @@ pub fn prepare_mean<F: Folder>(
 /// The program of a text, if it is one that keeps the typing rules.
 fn accept(alloc: Global, text: &[u8]) -> Result<Checked, TopEnd>
     requires { length text.now ≤ MAX_SOURCE_BYTES }
-    ensures text { IfOk result (λ checked. IsText text.now checked) }
+    ensures text { IfOk result (λ checked. HasProgram text.now checked) }
     ensures typed { IfOk result (λ checked. IsTyped checked) }
     ensures few { IfOk result (λ checked. (literals : List ℕ)
         → literals_are checked ≡ Some literals → 5 * length literals ≤ MAX_SOURCE_BYTES) }
@@ -140,7 +141,7 @@ fn tokens_in(alloc: Global, text: &[u8]) -> Result<Vec<Token>, TopEnd>
 fn program_in(alloc: Global, text: &[u8], tokens: &[Token]) -> Result<Program, TopEnd>
     requires few { length tokens.now ≤ MAX_SOURCE_BYTES }
     requires lexed { HasTokens text.now tokens.now }
-    ensures read { IfOk result (λ program. AreProgram (kinds_in tokens.now) program) }
+    ensures read { IfOk result (λ program. AreProgram (kinds_of tokens.now) program) }
     ensures refused { IfErr result (λ end. AcceptCause text.now end) }
 {
     match read_program(alloc, tokens) {
@@ -152,7 +153,7 @@ fn program_in(alloc: Global, text: &[u8], tokens: &[Token]) -> Result<Program, T
 
 /// The program of a text, if it keeps the typing rules.
 fn checked_in(alloc: Global, text: &[u8], program: Program) -> Result<Checked, TopEnd>
-    requires is_text { IsText text.now program }
+    requires is_text { HasProgram text.now program }
     requires is_read { IsReadProgram program }
     ensures program { IfOk result (λ checked. checked ≡ program) }
     ensures typed { OnOk result (IsTyped program) }

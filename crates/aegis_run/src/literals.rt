@@ -18,7 +18,7 @@ pub fn literals_of(alloc: Global, program: &Program) -> Result<Option<Vec<u32>>,
     item_literals(alloc, item)
 }
 
-/// The same of an item.
+/// The literals that an item releases, where it is such a function.
 fn item_literals(alloc: Global, item: &Item) -> Result<Option<Vec<u32>>, OutOfMemory>
     ensures { IfOk result (λ found.
         option_map (λ literals. literals.items) found ≡ spec.item_literals item.now) }
@@ -34,11 +34,11 @@ fn item_literals(alloc: Global, item: &Item) -> Result<Option<Vec<u32>>, OutOfMe
     else {
         return Ok(None);
     };
-    let is_main = !*private
+    let is_plain_main = !*private
         && matches!(result, Kind3::Int)
-        && name.as_str() == "main"
+        && name.as_bytes() == b"main".as_slice()
         && params.as_slice().is_empty();
-    if !is_main {
+    if !is_plain_main {
         return Ok(None);
     }
     body_literals(alloc, body.as_slice())
@@ -72,7 +72,7 @@ fn returns_literal(statement: &Stmt) -> bool
         Stmt::Return {
             value: Some(value),
             ..
-        } => number_in(value).is_some(),
+        } => literal_in(value).is_some(),
         _ => false,
     }
 }
@@ -82,14 +82,14 @@ fn released_by(statement: &Stmt) -> Option<u32>
     ensures { result ≡ spec.released_by statement.now }
 {
     match statement {
-        Stmt::Release { value, .. } => number_in(value),
+        Stmt::Release { value, .. } => literal_in(value),
         _ => None,
     }
 }
 
 /// The number that an expression is, if it is a literal.
-fn number_in(expr: &Expr) -> Option<u32>
-    ensures { result ≡ spec.number_in expr.now }
+fn literal_in(expr: &Expr) -> Option<u32>
+    ensures { result ≡ spec.literal_in expr.now }
 {
     match expr {
         Expr::Number { value, .. } => Some(*value),

@@ -12,7 +12,7 @@ use orbis_core::{Core, FlatMemory, Port, StepEnd, step};
 use regions::{Layout, MAX_DATA_BLOCKS, TREE_START};
 use std::alloc::Global;
 
-/// How a run ended, and behind how many instructions.
+/// How a run ended, and after how many instructions.
 #[derive(Clone, Copy, Debug)]
 pub struct Ran {
     pub end: End,

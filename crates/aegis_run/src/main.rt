@@ -37,7 +37,7 @@ fn main(rt: HostRuntime) -> ExitCode {
     ExitCode::from(finish.status)
 }
 
-/// The words behind the program's name, and none where one of them is not UTF-8: no command has
+/// The words after the program's name, and none where one of them is not UTF-8: no command has
 /// such a word.
 fn words_behind(rt: &(impl Env + AllocGlobal)) -> Result<Vec<String>, AllocError> {
     match env::args(rt) {

@@ -18,7 +18,7 @@ const USAGE_OF_MEAN: &str = ", mean SOURCE INPUT TURNS";
 /// A line with its line feed.
 pub type Line = ArrayString<256>;
 
-/// The line of an answer, and of a run that ended behind `retired` instructions.
+/// The line of an answer, and of a run that ended after `retired` instructions.
 pub fn report_line(end: TopEnd, retired: u64) -> Line
     ensures { result.bytes ≡ line_of end retired }
 {

@@ -15,13 +15,12 @@ use crate::ends::{End, File, Finish, TopEnd, status_of};
 use crate::report::report_line;
 use aegis_edge::{Folder, Sink};
 use c_meaning::MeanEnd;
-use c_reader::{SyntaxError, one_program};
-use c_text::{refused_alike, resolved_alike};
+use c_reader::SyntaxError;
 use c_token::TokenError;
 use c_types::TypeError;
 use std::alloc::Global;
 
-/// Does what the words behind the program's name say. `run SOURCE SCRIPT INPUT FUEL KEY NONCE` reads the three
+/// Does what the words after the program's name say. `run SOURCE SCRIPT INPUT FUEL KEY NONCE` reads the three
 /// files from the folder, compiles the source and runs it; each byte goes to `out` as it is released.
 /// `mean SOURCE INPUT TURNS` reads the two files and evaluates the source, with at most so many loop turns; its
 /// bytes go to `out` once it has ended. One line on the end goes to `notes`.
@@ -137,14 +136,11 @@ pub fn aegis<F: Folder, K: Sink, N: Sink>(
     ensures line_steady { IsTrue result.noted → N.faults notes.new ≡ N.faults notes.old }
     ensures status { result.status ≡ status_of_answer result.end result.noted }
 {
-    one_program();
-    refused_alike();
-    resolved_alike();
     let outcome = answer_words(alloc, words, folder, out);
     noted(outcome.end, outcome.retired, notes)
 }
 
-/// Writes the line of an answer, and of a run that ended behind `retired` instructions.
+/// Writes the line of an answer, and of a run that ended after `retired` instructions.
 pub fn noted<N: Sink>(end: TopEnd, retired: u64, notes: &mut N) -> Finish
     requires { N.limit notes.old ≡ None }
 

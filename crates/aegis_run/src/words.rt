@@ -36,7 +36,7 @@ pub enum Command<'a> {
     Mean(MeanWords<'a>),
 }
 
-/// Reads the words behind the program's name as a row of the table of commands.
+/// Reads the words after the program's name as a row of the table of commands.
 pub fn read_command(words: &[String]) -> Option<Command<'_>>
     ensures { option_map command_of result ≡ command_in words.now }
 {
@@ -49,7 +49,7 @@ pub fn read_command(words: &[String]) -> Option<Command<'_>>
     }
 }
 
-/// Reads the words behind the program's name as a `run`.
+/// Reads the words after the program's name as a `run`.
 fn run_words(words: &[String]) -> Option<RunWords<'_>>
     ensures { option_map names_of result ≡ run_row (map string_bytes words.now) }
 {
@@ -71,7 +71,7 @@ fn run_words(words: &[String]) -> Option<RunWords<'_>>
     })
 }
 
-/// Reads the words behind the program's name as a `mean`.
+/// Reads the words after the program's name as a `mean`.
 fn mean_words(words: &[String]) -> Option<MeanWords<'_>>
     ensures { option_map mean_names_of result ≡ mean_row (map string_bytes words.now) }
 {

@@ -3,7 +3,7 @@ use Rattle.std.proofs.lemmas.Bool.Decides.{nat_tests}
 use Rattle.std.proofs.lemmas.List.{nil_from_length}
 use Rattle.std.proofs.lemmas.Grind.{common_steps}
 use Rattle.aegis_edge.specs.Folder.{Files}
-use Rattle.c_text.specs.Texts.{IsText}
+use Rattle.c_grammar.specs.TokenPrograms.{HasProgram}
 use Rattle.aegis_run.specs.declared.ends.File.TheVariants.{Source, Script, Input}
 use Rattle.aegis_run.specs.Answer.{IsRead}
 use Rattle.aegis_run.specs.Opening.{names_of}
@@ -14,8 +14,8 @@ pub returns-in-Ok-clause-ready : goal.returns-in-Ok-clause-ready
 returns-in-Ok-clause-ready g c =
     let files : Option Files = g.F.Folder.files c.args.folder.now in
     let source : IsRead files c.args.names.now.source.now Source c.in_ok-source.source.items = c.in_ok-source.ensures.read in
-    let P : List ℕ → Type 0 = λ text. IsText text c.in_ok-program.program in
-    let text : IsText c.in_ok-source.source.items c.in_ok-program.program = subst P c.as_slice.ensures.value c.in_ok-program.ensures.text in
+    let P : List ℕ → Type 0 = λ text. HasProgram text c.in_ok-program.program in
+    let text : HasProgram c.in_ok-source.source.items c.in_ok-program.program = subst P c.as_slice.ensures.value c.in_ok-program.ensures.text in
     let Q : Option Files → Type 0 = λ files. IsRead files c.args.names.now.script.now Script c.in_ok-script.script.items in
     let script : IsRead files c.args.names.now.script.now Script c.in_ok-script.script.items = subst Q c.in_ok-source.ensures.kept c.in_ok-script.ensures.read in
     let len : length c.in_ok-script.script.items ≡ 0 = grind (arith, common_steps, nat_tests) in

@@ -1,7 +1,7 @@
 use Rattle.std.proofs.Common.{◌≡◌, ◌+◌, ◌≤◌, ◌∷◌, [], length, sym, ap, ◌∙◌, subst, arith}
 use Rattle.std.proofs.lemmas.Grind.{common_steps}
 use Rattle.aegis_edge.specs.Sink.{Appends, AppendsFront}
-use Rattle.aegis_run.proofs.MachineLemmas.{Progress, steps_on, after_next, after_release, after_fault, after_exit, never_else, never_behind}
+use Rattle.aegis_run.proofs.MachineLemmas.{Progress, steps_on, after_next, after_release, after_fault, after_exit, never_else, never_after}
 use Rattle.orbis_core.specs.FlatMemory.{Flat}
 use Rattle.aegis_run.specs.Code.{HoldsCode}
 use Rattle.aegis_run.proofs.machine.run.Goals as goal
@@ -34,7 +34,7 @@ pub unreachable-requires-2 : goal.unreachable-requires-2
 unreachable-requires-2 g c =
     let some = c.requires.straight in
     let few : some.0 ≤ length c.args.code.now = some.2 in
-    never_behind c.loop-index.memory some.0 c.loop-index.index _ _ _ some.1 (omega arith) (c.loop-index.invariant.progress some.0 some.1 some.3)
+    never_after c.loop-index.memory some.0 c.loop-index.index _ _ _ some.1 (omega arith) (c.loop-index.invariant.progress some.0 some.1 some.3)
 
 pub loop-index-preserved : goal.loop-index-preserved
 loop-index-preserved g c =
