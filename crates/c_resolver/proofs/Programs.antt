@@ -5,7 +5,6 @@ use Rattle.c_grammar.specs.declared.item.Item.TheVariants as item
 use Rattle.c_grammar.specs.declared.item.Parameter.{Parameter}
 use Rattle.c_grammar.specs.declared.item.Value.{Value}
 use Rattle.c_scopes.specs.declared.declaration.Declaration.{Declaration}
-use Rattle.c_scopes.specs.Scopes.{latest, first_some}
 use Rattle.c_scopes.specs.Declarations.{declaration_of, declarations_of, parameter, parameters_of}
 use Rattle.c_semantics.specs.declared.tree.Function as own
 use Rattle.c_semantics.specs.declared.tree.Object as object
