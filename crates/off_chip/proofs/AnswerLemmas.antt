@@ -2,7 +2,7 @@
 use Rattle.std.proofs.Common.{◌≡◌, ℕ, List, [], ◌∷◌, ◌++◌, refl}
 use Rattle.regions.specs.declared.layout.Layout.{Layout}
 use Rattle.off_chip.specs.declared.event.Event.{Event}
-use Rattle.off_chip.specs.AnsweredReads.{Holds, after_event, after_events, IsAnswered}
+use Rattle.off_chip.specs.OffChipBytes.{Holds, after_event, after_events, IsAnswered}
 
 -- the memory after one event more
 pub after_events-more : (layout : Layout) (events : List Event) (event : Event) (memory : List ℕ) → after_events layout (events ++ event ∷ []) memory ≡ after_event layout event (after_events layout events memory)

@@ -8,8 +8,7 @@ use Rattle.off_chip.specs.declared.loading.TheConstants.{RESUME_WORD}
 use Rattle.off_chip.specs.declared.event.Who.TheVariants.{Secure, Untrusted}
 use Rattle.off_chip.specs.declared.event.Mark.TheVariants.{Suspend}
 use Rattle.off_chip.specs.declared.event.Event.TheVariants.{WordRead, WordWrite, Note}
-use Rattle.off_chip.specs.OffChipBytes.{IsWordAddress, bytes_at, bytes_put, size_of, start_of_place, static_block, static_place, stored}
-use Rattle.off_chip.specs.AnsweredReads.{IsAnswered}
+use Rattle.off_chip.specs.OffChipBytes.{IsWordAddress, bytes_at, bytes_put, size_of, start_of_place, static_block, static_place, stored, IsAnswered}
 use Rattle.off_chip.specs.BusCalls.{AppendsOne, IsInside}
 
 -- the program's constants are those of the definitions

@@ -17,10 +17,8 @@ use Rattle.off_chip.specs.declared.event.Event.{Event}
 use Rattle.off_chip.specs.declared.event.Event.TheVariants.{BlockRead, BlockWrite, WordRead, WordWrite, Note}
 use Rattle.off_chip.specs.declared.loading.TheConstants.{RESUME_WORD}
 use Rattle.off_chip.specs.Histories.{History, no_event, ◌◂◌, in_order, history, first_told}
-use Rattle.off_chip.specs.OffChipBytes.{HasPlace, bytes_at, bytes_loaded, bytes_put, size_of, start_of_place, static_block, static_blocks, static_place, stored, with_statics}
-use Rattle.off_chip.specs.AnsweredReads.{Holds, after_event, after_events, IsAnswered}
-use Rattle.off_chip.specs.BlockPlaces.{LiesInside}
-use Rattle.off_chip.specs.StaticBlocks.{static_at}
+use Rattle.off_chip.specs.OffChipBytes.{HasPlace, bytes_at, bytes_loaded, bytes_put, size_of, start_of_place, static_block, static_blocks, static_place, stored, with_statics, Holds, after_event, after_events, IsAnswered}
+use Rattle.off_chip.specs.BlockPlaces.{LiesInside, static_at}
 use Rattle.off_chip.specs.WriteBacks.{same_place, written_at, last_write, IsLastWrite}
 use Rattle.off_chip.specs.FaithfulReads.{AllReadsFaithful, IsFaithfulRead, as_written, as_loaded}
 use Rattle.off_chip.specs.HonestMemory.{moved_block, IsWhole, FirstReadsStatic, IsPlainTrace}

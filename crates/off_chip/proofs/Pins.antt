@@ -13,15 +13,13 @@ use Rattle.off_chip.specs.declared.event.Event.TheVariants.{BlockRead, BlockWrit
 use Rattle.off_chip.specs.declared.event.Mark.TheVariants.{Enter, Drop, CheckPassed, Suspend, Resume}
 use Rattle.off_chip.specs.declared.event.Who.TheVariants.{Secure, Untrusted}
 use Rattle.off_chip.specs.Histories.{History, no_event, ◌◂◌}
-use Rattle.off_chip.specs.AnsweredReads.{Holds}
+use Rattle.off_chip.specs.OffChipBytes.{Holds, stored, bytes_at}
 use Rattle.off_chip.specs.BusCalls.{HoldsTold, IsMarkInside, TellsOnly, TellsLog}
 use Rattle.off_chip.specs.BlockPlaces.{LiesInside}
 use Rattle.off_chip.specs.Collisions.{Strings, string_moved, BlockCollision, ProgramCollision, same_entry, SameEntries, sum_of, LogCollision}
-use Rattle.off_chip.specs.Entering.{enter_events, payloads_entered}
+use Rattle.off_chip.specs.Boundaries.{enter_events, payloads_entered, IsStretch}
 use Rattle.off_chip.specs.Epochs.{LogEntry}
-use Rattle.off_chip.specs.OffChipBytes.{stored, bytes_at}
 use Rattle.off_chip.specs.Residency.{are_distinct, is_resident, ResidentAtMost}
-use Rattle.off_chip.specs.SuspendedStretches.{IsStretch}
 use Rattle.off_chip.specs.WriteBacks.{Stamped}
 
 -- one verified block, one of constants, one of code and two of the log: the tree is one level high

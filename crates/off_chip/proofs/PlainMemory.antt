@@ -4,8 +4,7 @@ use Rattle.std.specs.Prelude.{IfSome}
 use Rattle.std.proofs.lemmas.List.{take_at}
 use Rattle.regions.specs.declared.layout.Layout.{Layout}
 use Rattle.off_chip.specs.declared.event.Event.{Event}
-use Rattle.off_chip.specs.OffChipBytes.{bytes_loaded, bytes_put}
-use Rattle.off_chip.specs.AnsweredReads.{Holds, after_event, after_events, IsAnswered}
+use Rattle.off_chip.specs.OffChipBytes.{bytes_loaded, bytes_put, Holds, after_event, after_events, IsAnswered}
 use Rattle.off_chip.proofs.AnswerLemmas.{after_events-more, IsAnswered-more}
 use Rattle.off_chip.specs.declared.event.Event.TheVariants.{Note}
 use Rattle.off_chip.specs.declared.event.Mark.{Mark}

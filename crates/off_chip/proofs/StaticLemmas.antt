@@ -7,7 +7,7 @@ use Rattle.aegis_num.specs.declared.storage.Place.TheVariants.{Tree, Log}
 use Rattle.regions.specs.declared.layout.Layout.{Layout}
 use Rattle.regions.specs.Tree.{leaf_of}
 use Rattle.off_chip.specs.OffChipBytes.{bytes_at, static_blocks, static_place, static_block}
-use Rattle.off_chip.specs.StaticBlocks.{first_static, static_at, IsStatic}
+use Rattle.off_chip.specs.BlockPlaces.{first_static, static_at, IsStatic}
 
 place-static : (layout : Layout) (n : ℕ) → leaf_of layout (layout.verified + layout.private + n) ≡ first_static layout + n
 place-static layout n = omega arith

@@ -6,8 +6,7 @@ use Rattle.std.proofs.lemmas.List.Sums.{sum_by-cons}
 use Rattle.off_chip.specs.declared.event.Event.{Event}
 use Rattle.off_chip.specs.declared.event.Event.TheVariants.{Note}
 use Rattle.off_chip.specs.declared.event.Mark.TheVariants.{Suspend, Resume}
-use Rattle.off_chip.specs.Boundaries.{is_suspend, suspensions}
-use Rattle.off_chip.specs.SuspendedStretches.{is_resume, IsStretch}
+use Rattle.off_chip.specs.Boundaries.{is_suspend, suspensions, is_resume, IsStretch}
 
 suspensions-cons : (event : Event) (trace : List Event) → suspensions (event ∷ trace) ≡ cond (is_suspend event) 1 0 + suspensions trace
 suspensions-cons event trace = sum_by-cons (λ (e : Event). cond (is_suspend e) 1 0) event trace

@@ -1,12 +1,28 @@
--- Promise: between which events an instruction of the secure program is done.
-use Rattle.std.specs.Prelude.{◌≡◌, ℕ, ◌+◌, ◌≤◌, ◌==◌, nat_le, Bool, true, false, ◌&&◌, ◌||◌, List, [], ◌∷◌, ◌++◌, length, drop, count_by, if◌then◌else◌}
-use Rattle.std.specs.Bool.{Decides}
-use Rattle.std.specs.List.{slice_split}
+-- Promise: what entering reads, between which events an instruction of the secure program is done, and the events of a suspension.
+use Rattle.std.specs.Prelude.{ℕ, ◌+◌, List, take, filter_map, Option, Some, None, ◌≡◌, ◌≤◌, ◌==◌, nat_le, Bool, true, false, ◌&&◌, ◌||◌, [], ◌∷◌, ◌++◌, length, drop, count_by, if◌then◌else◌}
+use Rattle.regions.specs.declared.layout.Layout.{Layout}
 use Rattle.off_chip.specs.declared.event.Event.{Event}
-use Rattle.off_chip.specs.declared.event.Event.TheVariants.{Note}
-use Rattle.off_chip.specs.declared.event.Mark.TheVariants.{Retire, Suspend}
+use Rattle.off_chip.specs.declared.event.Event.TheVariants.{BlockRead, Note}
+use Rattle.regions.specs.Tree.{tree_blocks}
+use Rattle.off_chip.specs.OffChipBytes.{static_blocks}
+use Rattle.std.specs.Bool.{Decides}
+use Rattle.std.specs.List.{slice_split, list_any}
+use Rattle.off_chip.specs.declared.event.Mark.TheVariants.{Retire, Suspend, Resume}
 use Rattle.off_chip.specs.declared.event.Who.TheVariants.{Secure}
 use Rattle.off_chip.specs.Histories.{History, no_event, ◌◂◌, in_order, history}
+
+-- how many events entering takes: its mark, a read of each static block, a write of each block of the tree, and one of each log block
+abbrev pub enter_events : Layout → ℕ
+enter_events layout = 1 + static_blocks layout + tree_blocks layout + layout.log
+
+-- the payload that a block read gives
+abbrev pub payload_read : Event → Option (List ℕ)
+payload_read (BlockRead at block) = Some block.payload
+payload_read event = None
+
+-- the payloads that were read at entering, in order
+abbrev pub payloads_entered : Layout → List Event → List (List ℕ)
+payloads_entered layout trace = filter_map payload_read (take (enter_events layout) trace)
 
 -- an instruction of the secure program was done
 abbrev pub is_retire : Event → Bool
@@ -65,3 +81,20 @@ pub record BoundariesInOrder : Type 0 where
       → steps entry (before ++ Note (Retire Secure) ∷ rest) ≡ steps entry before ++ slice_split is_retire rest
   pub last : (entry : ℕ) (trace : List Event) (earlier : List (List Event)) (step : List Event) → entry ≤ length trace
       → steps entry trace ≡ earlier ++ step ∷ [] → since_step entry (history trace) ≡ step
+
+-- the program goes on
+abbrev pub is_resume : Event → Bool
+is_resume (Note Resume) = true
+is_resume event = false
+
+-- the events between the Suspend mark with this number, counted from 0, and its Resume mark: the first one after it
+pub record IsStretch (trace : List Event) (number : ℕ) (stretch : List Event) : Type 0 where
+  pub before : List Event
+  pub rest : List Event
+  pub parts : trace ≡ before ++ Note Suspend ∷ (stretch ++ Note Resume ∷ rest)
+  pub counted : suspensions before ≡ number
+  pub not_over : list_any is_resume stretch ≡ false
+
+-- a suspension has one stretch
+pub record StretchesAreOne : Type 0 where
+  pub one : (trace : List Event) (number : ℕ) (stretch other : List Event) → IsStretch trace number stretch → IsStretch trace number other → stretch ≡ other

@@ -6,8 +6,7 @@ use Rattle.regions.specs.declared.layout.Layout.{Layout}
 use Rattle.off_chip.specs.declared.event.Event.{Event}
 use Rattle.off_chip.specs.declared.event.Mark.{Mark}
 use Rattle.off_chip.specs.declared.event.Mark.TheVariants.{Drop}
-use Rattle.off_chip.specs.OffChipBytes.{HasPlace}
-use Rattle.off_chip.specs.AnsweredReads.{Holds}
+use Rattle.off_chip.specs.OffChipBytes.{HasPlace, Holds}
 
 -- exactly one event is appended to the trace, and takes one of the room
 pub record AppendsOne (event : Event) (old_trace : List Event) (old_room : ℕ) (new_trace : List Event) (new_room : ℕ) : Type 0 where

@@ -8,7 +8,7 @@ use Rattle.regions.specs.declared.layout.Layout.{Layout}
 use Rattle.off_chip.specs.declared.event.Event.{Event}
 use Rattle.off_chip.specs.declared.event.Event.TheVariants.{BlockRead, BlockWrite, Note}
 use Rattle.off_chip.specs.declared.event.Mark.TheVariants.{CheckPassed}
-use Rattle.off_chip.specs.Entering.{payloads_entered}
+use Rattle.off_chip.specs.Boundaries.{payloads_entered}
 use Rattle.off_chip.specs.Histories.{history}
 use Rattle.off_chip.specs.Epochs.{LogEntry, open_reads, open_writes}
 
@@ -67,8 +67,7 @@ pub record EntrySum : Type 0 where
 abbrev pub sum_of : (LogEntry → ℕ) → List LogEntry → EntrySum
 sum_of value entries = record { number = length entries; total = sum_by value entries % (2 ^ 128) }
 
--- the check that passed at the event of this number compared two multisets that differ and have one sum: the writes and the reads of the
--- epoch that ended there
+-- at this event a check passed that compared two different multisets of one sum: the writes and the reads of the epoch that ended there
 pub record LogCollision (value : LogEntry → ℕ) (trace : List Event) (number : ℕ) : Type 0 where
   pub before : List Event
   pub rest : List Event

@@ -1,6 +1,5 @@
--- Promise: histories, and the words in which a trace is spoken of.
--- A trace is told in order, the oldest event first. What is said of an event depends on the events before it, so most definitions go
--- back over the history. It is a type of its own, so that no trace is taken for one.
+-- Promise: histories, and the words in which a trace is spoken of. A trace is told in order, the oldest event first; most definitions
+-- go back over its history, the newest first, which is a type of its own, so that no trace is taken for one.
 use Rattle.std.specs.Prelude.{◌≡◌, Bool, ⊤, List, [], ◌∷◌, ◌++◌, Option, Some, None, IsTrue, ◌↔◌, if◌then◌else◌}
 use Rattle.std.specs.Bool.{OnTrue, OnFalse}
 use Rattle.std.specs.List.{slice_split}

@@ -6,10 +6,8 @@ use Rattle.regions.specs.declared.addresses.TheConstants.{BLOCK_BYTES, OPEN_END,
 use Rattle.regions.specs.declared.layout.Layout.{Layout}
 use Rattle.off_chip.specs.declared.event.Event.{Event}
 use Rattle.off_chip.specs.declared.event.Event.TheVariants.{BlockRead, BlockWrite}
-use Rattle.off_chip.specs.OffChipBytes.{HasPlace, bytes_at, bytes_loaded, size_of, start_of_place, static_blocks, stored}
-use Rattle.off_chip.specs.AnsweredReads.{IsAnswered}
-use Rattle.off_chip.specs.BlockPlaces.{AllInside}
-use Rattle.off_chip.specs.StaticBlocks.{static_at}
+use Rattle.off_chip.specs.OffChipBytes.{HasPlace, bytes_at, bytes_loaded, size_of, start_of_place, static_blocks, stored, IsAnswered}
+use Rattle.off_chip.specs.BlockPlaces.{AllInside, static_at}
 use Rattle.off_chip.specs.WriteBacks.{written_at, IsLastWrite}
 use Rattle.off_chip.specs.FaithfulReads.{AllReadsFaithful}
 

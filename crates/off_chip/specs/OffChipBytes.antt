@@ -1,5 +1,5 @@
--- Promise: off-chip memory as bytes in a row: the open bytes, then each block of the tree, then each block of the log.
-use Rattle.std.specs.Prelude.{ℕ, ◌+◌, ◌*◌, ◌<◌, ◌%◌, ◌≡◌, List, ◌++◌, take, drop, length, replicate, zero, suc}
+-- Promise: off-chip memory as bytes in a row: the open bytes, then each block of the tree, then each block of the log; and which reads they answer.
+use Rattle.std.specs.Prelude.{ℕ, ◌+◌, ◌*◌, ◌<◌, ◌%◌, ◌≡◌, List, ◌++◌, take, drop, length, replicate, zero, suc, [], ◌∷◌}
 use Rattle.std.specs.Int.{w32, w64, to_be_bytes}
 use Rattle.aegis_num.specs.declared.storage.Place.{Place}
 use Rattle.aegis_num.specs.declared.storage.Place.TheVariants.{Tree, Log}
@@ -7,6 +7,8 @@ use Rattle.aegis_num.specs.declared.storage.Block.{Block}
 use Rattle.regions.specs.declared.layout.Layout.{Layout}
 use Rattle.regions.specs.declared.addresses.TheConstants.{BLOCK_BYTES, OPEN_END, STORED_BLOCK_BYTES, UNTRUSTED_START}
 use Rattle.regions.specs.Tree.{leaf_of, tree_blocks}
+use Rattle.off_chip.specs.declared.event.Event.{Event}
+use Rattle.off_chip.specs.declared.event.Event.TheVariants.{BlockRead, BlockWrite, WordRead, WordWrite, Note}
 
 -- the bytes of a block off chip: its stamp stands after its payload, the greatest byte first
 abbrev pub stored : Block → List ℕ
@@ -73,3 +75,30 @@ bytes_loaded_over layout statics memory =
 -- what memory begins with: these over zeros
 unfoldable pub bytes_loaded : Layout → List ℕ → List ℕ
 bytes_loaded layout statics = bytes_loaded_over layout statics (replicate (size_of layout) 0)
+
+-- a read holds the bytes that stand at its place
+abbrev pub Holds : Layout → List ℕ → Event → Type 0
+Holds layout memory (BlockRead at block) = stored block ≡ bytes_at (start_of_place layout at) STORED_BLOCK_BYTES memory
+Holds layout memory (BlockWrite at block) = Unit {0}
+Holds layout memory (WordRead by at word) = to_be_bytes w32 word ≡ bytes_at at 4 memory
+Holds layout memory (WordWrite by at word) = Unit {0}
+Holds layout memory (Note mark) = Unit {0}
+
+-- a write puts its bytes, and nothing else changes memory
+abbrev pub after_event : Layout → Event → List ℕ → List ℕ
+after_event layout (BlockRead at block) memory = memory
+after_event layout (BlockWrite at block) memory = bytes_put (start_of_place layout at) (stored block) memory
+after_event layout (WordRead by at word) memory = memory
+after_event layout (WordWrite by at word) memory = bytes_put at (to_be_bytes w32 word) memory
+after_event layout (Note mark) memory = memory
+
+-- the memory after events, from the memory before them
+abbrev pub after_events : Layout → List Event → List ℕ → List ℕ
+after_events layout [] memory = memory
+after_events layout (event ∷ events) memory = after_events layout events (after_event layout event memory)
+
+-- each read of the events holds the bytes that stand at its place just before it: those last written there, or those of the beginning
+abbrev pub IsAnswered : Layout → List Event → List ℕ → Type 0
+IsAnswered layout [] memory = Unit {0}
+IsAnswered layout (event ∷ events) memory =
+    Holds layout memory event × IsAnswered layout events (after_event layout event memory)

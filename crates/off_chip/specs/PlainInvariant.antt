@@ -3,8 +3,7 @@ use Rattle.std.specs.Prelude.{ℕ, ◌≡◌, List, length}
 use Rattle.regions.specs.declared.layout.Layout.{Layout}
 use Rattle.regions.specs.Tree.{tree_blocks}
 use Rattle.off_chip.specs.declared.event.Event.{Event}
-use Rattle.off_chip.specs.OffChipBytes.{bytes_loaded, size_of}
-use Rattle.off_chip.specs.AnsweredReads.{after_events}
+use Rattle.off_chip.specs.OffChipBytes.{bytes_loaded, size_of, after_events}
 use Rattle.off_chip.specs.HonestMemory.{IsPlainTrace}
 
 -- the bytes are those after the events, and the trace is one of a plain memory

@@ -1,9 +1,13 @@
--- Promise: what a plain memory is seen as, and when two are the same memory.
-use Rattle.std.specs.Prelude.{ℕ, ◌≡◌, List}
-use Rattle.regions.specs.declared.layout.Layout.{Layout}
+-- Promise: what a recorder keeps of events, what a plain memory is seen as, and when two are the same memory.
+use Rattle.std.specs.Prelude.{ℕ, List, ◌≡◌}
 use Rattle.off_chip.specs.declared.event.Event.{Event}
-use Rattle.off_chip.specs.OffChipBytes.{bytes_loaded}
-use Rattle.off_chip.specs.AnsweredReads.{after_events}
+use Rattle.regions.specs.declared.layout.Layout.{Layout}
+use Rattle.off_chip.specs.OffChipBytes.{bytes_loaded, after_events}
+
+-- the events so far, oldest first, and how many further ones there is room for
+pub record KeptEvents : Type 0 where
+  pub trace : List Event
+  pub room : ℕ
 
 -- the layout, the static blocks that it began with, its events, and how many further ones there is room for
 pub record Plain : Type 0 where

@@ -17,7 +17,7 @@ pub struct Recorder {
 
 impl Model for Recorder {
     ghost use Rattle.std.specs.Prelude.{◌+◌, ◌≤◌, ◌<◌, ◌^◌, vec_len, vec_capacity};
-    ghost use Rattle.off_chip.specs.KeptEvents.{KeptEvents};
+    ghost use Rattle.off_chip.specs.PlainValues.{KeptEvents};
 
     ghost Value = { KeptEvents };
 

@@ -4,7 +4,7 @@ use Rattle.std.proofs.lemmas.List.{length_push}
 use Rattle.regions.specs.declared.layout.Layout.{Layout}
 use Rattle.adversary_script.specs.declared.change.Change.{Change}
 use Rattle.off_chip.specs.declared.event.Event.{Event}
-use Rattle.off_chip.specs.AnsweredReads.{Holds, after_event}
+use Rattle.off_chip.specs.OffChipBytes.{Holds, after_event}
 use Rattle.scripted_dram.specs.ChangedStates.{StoredState, states_changed}
 use Rattle.scripted_dram.specs.StoredStates.{Store, all_stored, with_memory}
 use Rattle.off_chip.specs.Boundaries.{is_suspend}

@@ -8,8 +8,7 @@ use Rattle.adversary_script.specs.declared.change.When.TheVariants.{Start, At, S
 use Rattle.adversary_script.specs.declared.change.Change.{Change}
 use Rattle.off_chip.specs.declared.event.Event.{Event}
 use Rattle.off_chip.specs.Boundaries.{is_suspend}
-use Rattle.off_chip.specs.OffChipBytes.{bytes_loaded}
-use Rattle.off_chip.specs.AnsweredReads.{Holds, after_event}
+use Rattle.off_chip.specs.OffChipBytes.{bytes_loaded, Holds, after_event}
 use Rattle.scripted_dram.specs.ChangedStates.{StoredState, states_changed}
 
 -- memory and slots, how many events there were, and how many of these were the mark Suspend

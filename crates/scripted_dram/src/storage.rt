@@ -6,8 +6,7 @@ ghost use Rattle.regions.specs.declared.addresses.TheConstants.{OPEN_END, STORED
 ghost use Rattle.adversary_script.specs.declared.change.What.TheVariants.{Open, Bytes, Save, Back, Copy};
 ghost use Rattle.adversary_script.specs.ScriptRules.{is_in_range};
 ghost use Rattle.off_chip.specs.declared.event.Event.TheVariants.{BlockRead, BlockWrite, WordRead, WordWrite};
-ghost use Rattle.off_chip.specs.AnsweredReads.{Holds, after_event};
-ghost use Rattle.off_chip.specs.OffChipBytes.{HasPlace, IsWordAddress, bytes_loaded, size_of, static_blocks, start_of_place};
+ghost use Rattle.off_chip.specs.OffChipBytes.{Holds, after_event, HasPlace, IsWordAddress, bytes_loaded, size_of, static_blocks, start_of_place};
 ghost use Rattle.scripted_dram.specs.ChangedStates.{data_place, target_place, start_of_target};
 ghost use Rattle.scripted_dram.specs.StoredStates.{store_changed, with_memory};
 

@@ -1,8 +1,7 @@
 use Rattle.std.proofs.Common.{◌≡◌, ℕ, Bool, true, false, if◌then◌else◌, List, [], ◌∷◌, refl, sym, ap, subst, ◌∙◌}
 use Rattle.regions.specs.declared.layout.Layout.{Layout}
 use Rattle.off_chip.specs.declared.event.Event.{Event}
-use Rattle.off_chip.specs.OffChipBytes.{bytes_loaded}
-use Rattle.off_chip.specs.AnsweredReads.{Holds, IsAnswered, after_event}
+use Rattle.off_chip.specs.OffChipBytes.{bytes_loaded, Holds, IsAnswered, after_event}
 use Rattle.scripted_dram.specs.ChangedStates.{StoredState, states_changed}
 use Rattle.off_chip.specs.Boundaries.{is_suspend}
 use Rattle.scripted_dram.specs.ScriptMemory.{Moment, IsScripted, beginning, next}

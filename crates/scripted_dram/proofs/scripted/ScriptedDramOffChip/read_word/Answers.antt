@@ -1,6 +1,6 @@
 use Rattle.std.proofs.Common.{refl, subst}
 use Rattle.off_chip.specs.declared.event.Event.TheVariants.{WordRead}
-use Rattle.off_chip.specs.AnsweredReads.{Holds}
+use Rattle.off_chip.specs.OffChipBytes.{Holds}
 use Rattle.scripted_dram.specs.ScriptedValues.{Scripted, scripted_contents}
 use Rattle.scripted_dram.proofs.ScriptedMemory.{IsScriptedMemory-more, holds_told}
 use Rattle.scripted_dram.proofs.scripted.ScriptedDramOffChip.read_word.Goals as goal
