@@ -9,8 +9,8 @@ use Rattle.c_grammar.specs.TokenPrograms.{limit, AreProgram, AreLimited, IsUnlim
 use Rattle.c_grammar.proofs.Alike.{AllAlike, none_left, one_more}
 use Rattle.c_grammar.proofs.AlikeKinds.{kind_alike, kinds-numbered}
 use Rattle.c_grammar.proofs.AlikePrograms.{same_program}
-use Rattle.c_descent.specs.ListParser.{Reason, expected, deep, exhausted, ParseOutcome, done, stop, place_or}
-use Rattle.c_descent.specs.ProgramParser.{program}
+use Rattle.c_descent.proofs.ListParser.{Reason, expected, deep, exhausted, ParseOutcome, done, stop, place_or}
+use Rattle.c_descent.proofs.ProgramParser.{program}
 use Rattle.c_descent.proofs.Holds.{Alike, Opens, Holds, reaches, stops, Stops}
 use Rattle.c_descent.proofs.Comes.{To, arrives, late}
 use Rattle.c_descent.proofs.Declaring.{program_at}

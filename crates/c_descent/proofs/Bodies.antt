@@ -15,9 +15,9 @@ use Rattle.c_descent.specs.declared.parts.Start.{Start}
 use Rattle.c_descent.specs.declared.parts.Start.TheVariants as start
 use Rattle.c_descent.specs.declared.parts.LoopHead.{LoopHead}
 use Rattle.c_descent.specs.declared.parts.Braces.{Braces}
-use Rattle.c_descent.specs.ListParser.{Reason, expected, deep, ParseOutcome, done, stop, Parser, follow, ◌>>=◌, gives, refuses, first_kind, is_at_word, sign_token, word_token, level}
-use Rattle.c_descent.specs.StatementParser as p
-use Rattle.c_descent.specs.StatementParser.{statement_start, start_at, plain_of, plain_at, begins_simple, begins_statement}
+use Rattle.c_descent.proofs.ListParser.{Reason, expected, deep, ParseOutcome, done, stop, Parser, follow, ◌>>=◌, gives, refuses, first_kind, is_at_word, sign_token, word_token, level}
+use Rattle.c_descent.proofs.StatementParser as p
+use Rattle.c_descent.proofs.StatementParser.{statement_start, start_at, plain_of, plain_at, begins_simple, begins_statement}
 use Rattle.c_descent.proofs.Holds.{Seq, seq, Mapped, mapped, Alike, Holds, reaches, stops, Reaches, HoldsAt, Always, Full, mono, bind, then_reads, before, bind_at, mapping, mapped_at, by_first, dispatch, head_kind, Nothing, nothing, giving, free, no_text, full_seq, full_mapped, full_sign, Takes, Many, none_left, one_more, OpensSign, opens_sign, OpensWord, opens_word, above, above_at, above_ok, opening_sign, opening_word, deep_first, IsSign, is_sign, signing, IsWord, is_word, wording, refusing}
 use Rattle.c_descent.proofs.Lists.{head_sign, head_word, listing}
 use Rattle.c_descent.proofs.Chains.{zero_expression}

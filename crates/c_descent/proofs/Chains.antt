@@ -12,8 +12,8 @@ use Rattle.c_grammar.specs.BoundedTokens.{Tok, Spot, Bounded, tok_of, bounded, b
 use Rattle.c_grammar.specs.Precedence.{precedence}
 use Rattle.c_grammar.specs.ExpressionGrammar.{Expression, whole, Binary, alone, tighter, both, Unary, primary, literal}
 use Rattle.c_descent.specs.declared.parts.Grown.{Grown}
-use Rattle.c_descent.specs.ListParser.{deep, ParseOutcome, done, stop, Parser, follow, ◌>>=◌, gives, first_kind, sign_token}
-use Rattle.c_descent.specs.ExpressionParser.{operator_of, operator_at, joined_operand, chain_with, chain, chained, binary_expression}
+use Rattle.c_descent.proofs.ListParser.{deep, ParseOutcome, done, stop, Parser, follow, ◌>>=◌, gives, first_kind, sign_token}
+use Rattle.c_descent.proofs.ExpressionParser.{operator_of, operator_at, joined_operand, chain_with, chain, chained, binary_expression}
 use Rattle.c_descent.proofs.Holds.{Seq, seq, Mapped, mapped, Alike, Holds, Always, Full, mono, bind, bind_known, mapping, same_parser, dispatch, head_kind, Nothing, nothing, giving, free, full_mapped, Takes, strict_of, OpensSign, opens_sign, above_at, above_ok, opening_sign, deep_first}
 
 -- an operator of this rank stands first

@@ -5,7 +5,7 @@ use Rattle.c_token.specs.declared.signs.Sign.{Sign}
 use Rattle.c_token.specs.declared.words.Word.{Word}
 use Rattle.c_grammar.specs.BoundedTokens as g
 use Rattle.c_grammar.specs.BoundedTokens.{Tok, Spot, Bounded, tok_of, toks_of}
-use Rattle.c_descent.specs.ListParser.{deep, ParseOutcome, done, stop, Parser, follow, gives, is_at_sign, is_at_word, passed, sign_token, word_token, name_token, number_token}
+use Rattle.c_descent.proofs.ListParser.{deep, ParseOutcome, done, stop, Parser, follow, gives, is_at_sign, is_at_word, passed, sign_token, word_token, name_token, number_token}
 use Rattle.c_token.specs.contracts.signs.SignPartialEq.TheImpl as sign_eq
 use Rattle.c_token.specs.contracts.words.WordPartialEq.TheImpl as word_eq
 

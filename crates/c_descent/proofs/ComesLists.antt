@@ -3,7 +3,7 @@ use Rattle.std.proofs.Common.{◌≡◌, ℕ, Bool, true, false, List, [], ◌�
 use Rattle.c_token.specs.declared.signs.Sign.TheVariants as signs
 use Rattle.c_grammar.specs.BoundedTokens as g
 use Rattle.c_grammar.specs.BoundedTokens.{Tok, Spot, Bounded, tok_of, toks_of}
-use Rattle.c_descent.specs.ListParser.{done, Parser, follow, is_at_sign, sign_token, all, after_comma, separated}
+use Rattle.c_descent.proofs.ListParser.{done, Parser, follow, is_at_sign, sign_token, all, after_comma, separated}
 use Rattle.c_descent.proofs.Holds.{Alike, Always, Full, Takes, Seq, seq, Mapped, mapped, Many, none_left, one_more, is_sign}
 use Rattle.c_descent.proofs.Lists.{Comma, all_turn, turn, after_one, head_sign, comma_takes, comma_always}
 use Rattle.c_descent.proofs.Comes.{To, arrives, Goes, step, map_to, put-append, sign_goes}

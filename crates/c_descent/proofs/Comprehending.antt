@@ -14,9 +14,9 @@ use Rattle.c_grammar.specs.Precedence.{precedence, is_unary_operator}
 use Rattle.c_grammar.specs.ExpressionGrammar as gr
 use Rattle.c_grammar.specs.ExpressionGrammar.{Expression, whole, Binary, alone, tighter, both, Unary, primary, operation, Primary, literal, variable, element, parenthesised, Arguments, Listed, further}
 use Rattle.c_descent.specs.declared.parts.Grown.{Grown}
-use Rattle.c_descent.specs.ListParser.{deep, ParseOutcome, done, stop, Parser, follow, ◌>>=◌, gives, first_kind, is_some_sign, is_at_sign, sign_token, word_token, name_token}
-use Rattle.c_descent.specs.ExpressionParser as p
-use Rattle.c_descent.specs.ExpressionParser.{operator_at, unary_sign, Inside, opened}
+use Rattle.c_descent.proofs.ListParser.{deep, ParseOutcome, done, stop, Parser, follow, ◌>>=◌, gives, first_kind, is_some_sign, is_at_sign, sign_token, word_token, name_token}
+use Rattle.c_descent.proofs.ExpressionParser as p
+use Rattle.c_descent.proofs.ExpressionParser.{operator_at, unary_sign, Inside, opened}
 use Rattle.c_descent.proofs.Holds.{Always, Seq, seq, Mapped, mapped, Many, none_left, one_more, is_sign}
 use Rattle.c_descent.proofs.Lists.{Comma}
 use Rattle.c_descent.proofs.ComesLists.{separated_reads}

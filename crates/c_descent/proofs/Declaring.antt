@@ -23,10 +23,10 @@ use Rattle.c_descent.specs.declared.parts.Braces.{Braces}
 use Rattle.c_descent.specs.declared.parts.Heading.{Heading}
 use Rattle.c_descent.specs.declared.parts.Heading.TheVariants as heading
 use Rattle.c_descent.specs.declared.parts.Given.{Given}
-use Rattle.c_descent.specs.ListParser.{is_left, separated}
-use Rattle.c_descent.specs.StatementParser as st
-use Rattle.c_descent.specs.ProgramParser as p
-use Rattle.c_descent.specs.ProgramParser.{heading_of, heading_at, storage_of, result_kind}
+use Rattle.c_descent.proofs.ListParser.{is_left, separated}
+use Rattle.c_descent.proofs.StatementParser as st
+use Rattle.c_descent.proofs.ProgramParser as p
+use Rattle.c_descent.proofs.ProgramParser.{heading_of, heading_at, storage_of, result_kind}
 use Rattle.c_descent.proofs.Holds.{Seq, seq, Mapped, mapped, Alike, Holds, Always, Full, mono, bind, mapping, dispatch, head_kind, Nothing, nothing, giving, free, no_text, full_seq, full_mapped, full_sign, full_word, full_name, full_number, Takes, Many, none_left, one_more, IsSign, is_sign, signing, IsWord, is_word, wording, IsName, is_name, naming, IsNumber, is_number, numbering, refusing}
 use Rattle.c_descent.proofs.Lists.{listing, separating, separated_made, Comma}
 use Rattle.c_descent.proofs.Expressing.{if_sign}

@@ -17,9 +17,9 @@ use Rattle.c_descent.specs.declared.parts.Named.{Named}
 use Rattle.c_descent.specs.declared.parts.Bracketed.{Bracketed}
 use Rattle.c_descent.specs.declared.parts.Operand.{Operand}
 use Rattle.c_descent.specs.declared.parts.Operand.TheVariants as operand
-use Rattle.c_descent.specs.ListParser.{done, Parser, first_kind, is_some_sign, is_at_sign, separated}
-use Rattle.c_descent.specs.ExpressionParser as p
-use Rattle.c_descent.specs.ExpressionParser.{unary_sign, operand_of, Inside, opened}
+use Rattle.c_descent.proofs.ListParser.{done, Parser, first_kind, is_some_sign, is_at_sign, separated}
+use Rattle.c_descent.proofs.ExpressionParser as p
+use Rattle.c_descent.proofs.ExpressionParser.{unary_sign, operand_of, Inside, opened}
 use Rattle.c_descent.proofs.Holds.{Seq, seq, Mapped, mapped, Alike, Holds, Always, Full, mono, bind, mapping, mapped_at, dispatch, head_kind, Nothing, nothing, giving, free, full_seq, full_mapped, full_sign, OpensSign, opens_sign, above_at, above_ok, opening_sign, deep_first, IsSign, is_sign, signing, IsWord, is_word, wording, IsName, is_name, naming, IsNumber, is_number, numbering, Many, some_sign, refusing}
 use Rattle.c_descent.proofs.Lists.{head_sign, Comma, separating, separated_made}
 use Rattle.c_descent.proofs.Chains.{zero_token, zero_tree, zero_unary, zero_expression, Operand as Grows, binary_at}

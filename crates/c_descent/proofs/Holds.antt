@@ -12,7 +12,7 @@ use Rattle.c_grammar.specs.BoundedTokens as g
 use Rattle.c_grammar.specs.BoundedTokens.{Tok, Spot, Bounded, tok_of, bounded, bounded_all}
 use Rattle.c_descent.specs.declared.parts.Named.{Named}
 use Rattle.c_descent.specs.declared.parts.Numeral.{Numeral}
-use Rattle.c_descent.specs.ListParser.{Reason, expected, deep, exhausted, ParseOutcome, done, stop, Parser, follow, ◌>>=◌, gives, refuses, first_kind, is_some_sign, is_some_word, is_at_sign, is_at_word, passed, sign_token, word_token, name_by, name_token, number_by, number_token}
+use Rattle.c_descent.proofs.ListParser.{Reason, expected, deep, exhausted, ParseOutcome, done, stop, Parser, follow, ◌>>=◌, gives, refuses, first_kind, is_some_sign, is_some_word, is_at_sign, is_at_word, passed, sign_token, word_token, name_by, name_token, number_by, number_token}
 
 -- what tokens may be read as
 abbrev pub Rel : Type 0 → Type (0 + 1)

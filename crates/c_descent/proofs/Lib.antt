@@ -1,3 +1,7 @@
+pub mod ListParser
+pub mod ExpressionParser
+pub mod StatementParser
+pub mod ProgramParser
 mod WorkedParses
 pub mod WorkedPlaces
 pub mod Holds

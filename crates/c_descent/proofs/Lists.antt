@@ -5,7 +5,7 @@ use Rattle.c_token.specs.declared.signs.Sign.TheVariants as signs
 use Rattle.c_token.specs.declared.words.Word.{Word}
 use Rattle.c_grammar.specs.BoundedTokens as g
 use Rattle.c_grammar.specs.BoundedTokens.{Tok, Spot, Bounded, tok_of, bounded, bounded_all}
-use Rattle.c_descent.specs.ListParser.{ParseOutcome, done, stop, Parser, follow, ◌>>=◌, gives, is_some_sign, is_some_word, is_at_sign, is_at_word, prepend, many, all, after_comma, separated}
+use Rattle.c_descent.proofs.ListParser.{ParseOutcome, done, stop, Parser, follow, ◌>>=◌, gives, is_some_sign, is_some_word, is_at_sign, is_at_word, prepend, many, all, after_comma, separated}
 use Rattle.c_descent.proofs.Holds.{Seq, seq, Mapped, mapped, Alike, Holds, Always, Full, mono, bind, bind_known, mapping, mapped_at, same_parser, dispatch, head_kind, Nothing, nothing, giving, IsSign, is_sign, signing, Many, none_left, one_more, Takes, strict}
 
 pub head_sign : (x : Sign) (s t : List Tok) → Alike s t → is_at_sign x s ≡ is_at_sign x t

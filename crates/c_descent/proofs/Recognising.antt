@@ -21,10 +21,10 @@ use Rattle.c_grammar.specs.ProgramGrammar as gr
 use Rattle.c_grammar.specs.ProgramGrammar.{IsStorage, IsLength, IsValue, AreValues, AreInitial, IsResult, IsParameter, AreListed, AreParameters, IsPrivate, IsItem, AreItems, IsProgram}
 use Rattle.c_descent.specs.declared.parts.Named.{Named}
 use Rattle.c_descent.specs.declared.parts.Heading.TheVariants as heading
-use Rattle.c_descent.specs.ListParser.{done, Parser, follow, ◌>>=◌, gives, first_kind, is_left, is_at_sign, is_at_word, sign_token, word_token, name_token, number_token, separated}
-use Rattle.c_descent.specs.StatementParser as st
-use Rattle.c_descent.specs.ProgramParser as p
-use Rattle.c_descent.specs.ProgramParser.{heading_of, heading_at, storage_of, result_kind}
+use Rattle.c_descent.proofs.ListParser.{done, Parser, follow, ◌>>=◌, gives, first_kind, is_left, is_at_sign, is_at_word, sign_token, word_token, name_token, number_token, separated}
+use Rattle.c_descent.proofs.StatementParser as st
+use Rattle.c_descent.proofs.ProgramParser as p
+use Rattle.c_descent.proofs.ProgramParser.{heading_of, heading_at, storage_of, result_kind}
 use Rattle.c_descent.proofs.Holds.{Seq, seq, Mapped, mapped, Many, none_left, one_more, is_sign}
 use Rattle.c_descent.proofs.Lists.{Comma}
 use Rattle.c_descent.proofs.Comes.{To, arrives, Goes, step, map_to, sign_goes, name_goes, number_goes, word_goes}

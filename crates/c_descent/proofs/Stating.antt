@@ -14,10 +14,10 @@ use Rattle.c_grammar.specs.StatementGrammar.{IsType, Local, Simple, Maybe, State
 use Rattle.c_descent.specs.declared.parts.Named.{Named}
 use Rattle.c_descent.specs.declared.parts.Plain.{Plain}
 use Rattle.c_descent.specs.declared.parts.Plain.TheVariants as plain
-use Rattle.c_descent.specs.ListParser.{Parser, ◌>>=◌, gives, is_some_word, is_at_sign, is_at_word, word_token}
-use Rattle.c_descent.specs.ExpressionParser.{levels_inside}
-use Rattle.c_descent.specs.StatementParser as p
-use Rattle.c_descent.specs.StatementParser.{statement_start, start_at, plain_of, plain_at}
+use Rattle.c_descent.proofs.ListParser.{Parser, ◌>>=◌, gives, is_some_word, is_at_sign, is_at_word, word_token}
+use Rattle.c_descent.proofs.ExpressionParser.{levels_inside}
+use Rattle.c_descent.proofs.StatementParser as p
+use Rattle.c_descent.proofs.StatementParser.{statement_start, start_at, plain_of, plain_at}
 use Rattle.c_descent.proofs.Holds.{Seq, seq, Mapped, mapped, Alike, Holds, Always, Full, mono, bind, bind_at, mapping, mapped_at, dispatch, head_kind, Nothing, nothing, giving, free, full_seq, full_mapped, full_sign, full_name, OpensSign, opens_sign, OpensWord, opens_word, OpensName, opens_name, above, above_ok, opening_sign, opening_word, opening_name, IsSign, is_sign, signing, IsWord, is_word, wording, IsName, is_name, naming, some_word, passed_at, refusing}
 use Rattle.c_descent.proofs.Lists.{head_sign, head_word}
 use Rattle.c_descent.proofs.Chains.{zero_expression}

@@ -18,11 +18,11 @@ use Rattle.c_descent.specs.declared.parts.Start.{Start}
 use Rattle.c_descent.specs.declared.parts.Start.TheVariants as start
 use Rattle.c_descent.specs.declared.parts.Plain.{Plain}
 use Rattle.c_descent.specs.declared.parts.Plain.TheVariants as plain
-use Rattle.c_descent.specs.ListParser.{expected, deep, ParseOutcome, done, stop, Parser, follow, ◌>>=◌, gives, first_kind, is_some_sign, is_some_word, is_at_sign, is_at_word, sign_token, word_token, name_token, level}
-use Rattle.c_descent.specs.ExpressionParser.{levels_inside, subscript, arguments}
-use Rattle.c_descent.specs.ExpressionParser as ex
-use Rattle.c_descent.specs.StatementParser as p
-use Rattle.c_descent.specs.StatementParser.{statement_start, start_at, plain_of, plain_at, begins_simple, begins_statement}
+use Rattle.c_descent.proofs.ListParser.{expected, deep, ParseOutcome, done, stop, Parser, follow, ◌>>=◌, gives, first_kind, is_some_sign, is_some_word, is_at_sign, is_at_word, sign_token, word_token, name_token, level}
+use Rattle.c_descent.proofs.ExpressionParser.{levels_inside, subscript, arguments}
+use Rattle.c_descent.proofs.ExpressionParser as ex
+use Rattle.c_descent.proofs.StatementParser as p
+use Rattle.c_descent.proofs.StatementParser.{statement_start, start_at, plain_of, plain_at, begins_simple, begins_statement}
 use Rattle.c_descent.proofs.Holds.{Always, Many, none_left, one_more}
 use Rattle.c_descent.proofs.ComesLists.{all_reads}
 use Rattle.c_descent.proofs.Bodies.{St, Entry, local_entry, statement_entry, entry_takes, entry_at, statement_at}

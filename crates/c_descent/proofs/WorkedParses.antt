@@ -7,9 +7,9 @@ use Rattle.c_token.specs.declared.kinds.Kind.TheVariants.{Number, Word, Sign}
 use Rattle.c_grammar.specs.declared.expr.Expr.TheVariants as e
 use Rattle.c_grammar.specs.declared.stmt.Stmt.TheVariants as t
 use Rattle.c_grammar.specs.BoundedTokens.{numbered}
-use Rattle.c_descent.specs.ListParser.{deep, done, stop, sign_token, word_token, number_token, is_at_sign, is_at_word}
-use Rattle.c_descent.specs.ExpressionParser.{operator_at, joined_operand, chain, chained, binary_expression, expression, paren, literal, primary, unary_in, levels_inside, unary_expression, expression_at}
-use Rattle.c_descent.specs.StatementParser.{start_at, parenthesised_test, empty, while_loop, optional_else, conditional, statement_inside, barred, statement}
+use Rattle.c_descent.proofs.ListParser.{deep, done, stop, sign_token, word_token, number_token, is_at_sign, is_at_word}
+use Rattle.c_descent.proofs.ExpressionParser.{operator_at, joined_operand, chain, chained, binary_expression, expression, paren, literal, primary, unary_in, levels_inside, unary_expression, expression_at}
+use Rattle.c_descent.proofs.StatementParser.{start_at, parenthesised_test, empty, while_loop, optional_else, conditional, statement_inside, barred, statement}
 
 abbrev n : ℕ → Kind
 n x = Number x false

@@ -6,10 +6,10 @@ use Rattle.c_token.specs.declared.words.Word.TheVariants as w
 use Rattle.c_token.specs.declared.signs.Sign.TheVariants as s
 use Rattle.c_grammar.specs.BoundedTokens.{numbered}
 use Rattle.c_grammar.specs.TokenPrograms.{IsExpectedAt, IsDeepAt, IsShallowBefore}
-use Rattle.c_descent.specs.ListParser.{sign_token, word_token, name_token, number_token, many, all, is_at_sign, is_at_word}
-use Rattle.c_descent.specs.ExpressionParser.{operator_at, chain, chained, binary_expression, expression, paren, literal, primary, unary_in, levels_inside, unary_expression}
-use Rattle.c_descent.specs.StatementParser as st
-use Rattle.c_descent.specs.ProgramParser as p
+use Rattle.c_descent.proofs.ListParser.{sign_token, word_token, name_token, number_token, many, all, is_at_sign, is_at_word}
+use Rattle.c_descent.proofs.ExpressionParser.{operator_at, chain, chained, binary_expression, expression, paren, literal, primary, unary_in, levels_inside, unary_expression}
+use Rattle.c_descent.proofs.StatementParser as st
+use Rattle.c_descent.proofs.ProgramParser as p
 use Rattle.c_descent.proofs.Answered.{refused_expected, refused_deep}
 
 -- as many signs `(`

@@ -2,10 +2,8 @@
 //! of the grammar, and stops where no program goes on.
 #![tactic(auto)]
 
-mod laws;
 mod parts;
 
-pub use laws::{reads_programs, stops_at_deep, stops_at_expected};
 pub use parts::{
     Braces, Bracketed, Given, Grown, Heading, LoopHead, Named, Numeral, Operand, Plain, Start,
 };

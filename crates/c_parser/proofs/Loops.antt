@@ -7,8 +7,8 @@ use Rattle.c_parser.specs.declared.fault.Fault.{Fault}
 use Rattle.c_parser.specs.declared.fault.Fault.TheVariants.{Expected, Deep, OutOfMemory}
 use Rattle.c_grammar.specs.BoundedTokens.{Tok}
 use Rattle.c_parser.specs.CursorAnswers.{Matches}
-use Rattle.c_descent.specs.ListParser.{Reason, expected, deep, ParseOutcome, done, stop, Parser, follow, gives, prepend, many, all, is_left, is_at_sign, after_comma, separated}
-use Rattle.c_descent.specs.ExpressionParser.{operator_at, joined_operand, chain_with, chain, chained}
+use Rattle.c_descent.proofs.ListParser.{Reason, expected, deep, ParseOutcome, done, stop, Parser, follow, gives, prepend, many, all, is_left, is_at_sign, after_comma, separated}
+use Rattle.c_descent.proofs.ExpressionParser.{operator_at, joined_operand, chain_with, chain, chained}
 
 -- What a list's loop keeps: the outcome is what was read so far, and after it what the rest of the list gives.
 pub record Grows {A : Type 0} (outcome : ParseOutcome (List A)) (follows : List Tok → Bool) (p : Parser A) (xs : List A) (s : List Tok) : Type 0 where

@@ -3,7 +3,7 @@ use Rattle.std.specs.Prelude.{◌≡◌, ◌<◌, ◌≤◌, List, length, Resul
 use Rattle.c_parser.specs.declared.fault.Fault.{Fault}
 use Rattle.c_parser.specs.declared.fault.Fault.TheVariants.{Expected, Deep, OutOfMemory}
 use Rattle.c_grammar.specs.BoundedTokens.{Tok}
-use Rattle.c_descent.specs.ListParser.{expected, deep, ParseOutcome, done, stop}
+use Rattle.c_descent.proofs.ListParser.{expected, deep, ParseOutcome, done, stop}
 
 -- This answer, and what is left with it, are the outcome. Once memory runs out nothing is said of either.
 abbrev pub Matches : {A : Type 0} → Result A Fault → List Tok → ParseOutcome A → Type 0

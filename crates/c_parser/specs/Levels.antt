@@ -2,7 +2,7 @@
 use Rattle.std.specs.Prelude.{◌≡◌, ℕ, suc, Result, Ok, Err, Some, None}
 use Rattle.c_parser.specs.declared.fault.Fault.{Fault}
 use Rattle.c_parser.specs.declared.fault.Fault.TheVariants.{Deep}
-use Rattle.c_descent.specs.ExpressionParser.{levels_inside, unary_expression}
+use Rattle.c_descent.proofs.ExpressionParser.{levels_inside, unary_expression}
 
 -- whether a level is left, and how many are then
 abbrev pub OpensLevel : ℕ → Result ℕ Fault → Type 0

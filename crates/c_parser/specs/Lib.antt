@@ -1,2 +1,3 @@
 pub mod CursorAnswers
 pub mod Levels
+pub mod DescentLaws

@@ -1,6 +1,6 @@
 //! Blocks, and the statements that hold statements.
 ghost use Rattle.std.specs.Prelude.{◌≡◌};
-ghost use Rattle.c_descent.specs.StatementParser.{optional_else, conditional, while_loop, for_loop, entry, block_goes_on, entries, braced, block_statement, statement_inside, statement};
+ghost use Rattle.c_descent.proofs.StatementParser.{optional_else, conditional, while_loop, for_loop, entry, block_goes_on, entries, braced, block_statement, statement_inside, statement};
 ghost use Rattle.c_parser.specs.CursorAnswers.{Matches, TakesSome, LeavesUpTo};
 
 use crate::cursor::Cursor;
@@ -16,7 +16,7 @@ use std::alloc::Global;
 
 /// `while ( test ) body`
 #[cycle(statements)]
-#[tactic(auto, unfolding(c_descent::specs::StatementParser::while_loop))]
+#[tactic(auto, unfolding(c_descent::proofs::StatementParser::while_loop))]
 fn while_loop(alloc: Global, cursor: &mut Cursor<'_>, levels: u32) -> Result<Stmt, Fault>
     ensures reads { Matches result cursor.new
         (while_loop MAX_BINARY_OPERATORS levels (statement MAX_BINARY_OPERATORS levels) cursor.old) }
@@ -31,7 +31,7 @@ fn while_loop(alloc: Global, cursor: &mut Cursor<'_>, levels: u32) -> Result<Stm
 
 /// `else other`, if it stands there.
 #[cycle(statements)]
-#[tactic(auto, unfolding(c_descent::specs::StatementParser::optional_else))]
+#[tactic(auto, unfolding(c_descent::proofs::StatementParser::optional_else))]
 fn optional_else(
     alloc: Global,
     cursor: &mut Cursor<'_>,
@@ -51,7 +51,7 @@ fn optional_else(
 
 /// `if ( test ) body`, with `else other` where an `else` follows.
 #[cycle(statements)]
-#[tactic(auto, unfolding(c_descent::specs::StatementParser::conditional))]
+#[tactic(auto, unfolding(c_descent::proofs::StatementParser::conditional))]
 fn conditional(alloc: Global, cursor: &mut Cursor<'_>, levels: u32) -> Result<Stmt, Fault>
     ensures reads { Matches result cursor.new
         (conditional MAX_BINARY_OPERATORS levels (statement MAX_BINARY_OPERATORS levels) cursor.old) }
@@ -72,7 +72,7 @@ fn conditional(alloc: Global, cursor: &mut Cursor<'_>, levels: u32) -> Result<St
 
 /// `for ( first ; test ; step ) body`
 #[cycle(statements)]
-#[tactic(auto, unfolding(c_descent::specs::StatementParser::for_loop))]
+#[tactic(auto, unfolding(c_descent::proofs::StatementParser::for_loop))]
 fn for_loop(alloc: Global, cursor: &mut Cursor<'_>, levels: u32) -> Result<Stmt, Fault>
     ensures reads { Matches result cursor.new
         (for_loop MAX_BINARY_OPERATORS levels (statement MAX_BINARY_OPERATORS levels) cursor.old) }
@@ -93,7 +93,7 @@ fn for_loop(alloc: Global, cursor: &mut Cursor<'_>, levels: u32) -> Result<Stmt,
 
 /// A local and its `;`, or a statement.
 #[cycle(statements)]
-#[tactic(auto, unfolding(c_descent::specs::StatementParser::entry))]
+#[tactic(auto, unfolding(c_descent::proofs::StatementParser::entry))]
 fn entry(alloc: Global, cursor: &mut Cursor<'_>, levels: u32) -> Result<Stmt, Fault>
     ensures reads { Matches result cursor.new
         (entry MAX_BINARY_OPERATORS levels (statement MAX_BINARY_OPERATORS levels) cursor.old) }
@@ -106,7 +106,7 @@ fn entry(alloc: Global, cursor: &mut Cursor<'_>, levels: u32) -> Result<Stmt, Fa
 }
 
 /// Whether a block goes on.
-#[tactic(auto, unfolding(c_descent::specs::StatementParser::block_goes_on))]
+#[tactic(auto, unfolding(c_descent::proofs::StatementParser::block_goes_on))]
 fn goes_on(cursor: &Cursor<'_>) -> bool
     ensures { result ≡ block_goes_on cursor.now }
 {
@@ -115,7 +115,7 @@ fn goes_on(cursor: &Cursor<'_>) -> bool
 
 /// Locals and statements up to `}`, which is left.
 #[cycle(statements)]
-#[tactic(auto, unfolding(c_descent::specs::StatementParser::entries))]
+#[tactic(auto, unfolding(c_descent::proofs::StatementParser::entries))]
 fn entries(alloc: Global, cursor: &mut Cursor<'_>, levels: u32) -> Result<Items<Stmt>, Fault>
     ensures reads { Matches result cursor.new
         (entries MAX_BINARY_OPERATORS levels (statement MAX_BINARY_OPERATORS levels) cursor.old) }
@@ -131,7 +131,7 @@ fn entries(alloc: Global, cursor: &mut Cursor<'_>, levels: u32) -> Result<Items<
 
 /// `{`, locals and statements, and `}`.
 #[cycle(statements)]
-#[tactic(auto, unfolding(c_descent::specs::StatementParser::braced))]
+#[tactic(auto, unfolding(c_descent::proofs::StatementParser::braced))]
 pub fn braced(alloc: Global, cursor: &mut Cursor<'_>, levels: u32) -> Result<Braces, Fault>
     ensures reads { Matches result cursor.new
         (braced MAX_BINARY_OPERATORS levels (statement MAX_BINARY_OPERATORS levels) cursor.old) }
@@ -145,7 +145,7 @@ pub fn braced(alloc: Global, cursor: &mut Cursor<'_>, levels: u32) -> Result<Bra
 
 /// A block as a statement.
 #[cycle(statements)]
-#[tactic(auto, unfolding(c_descent::specs::StatementParser::block_statement))]
+#[tactic(auto, unfolding(c_descent::proofs::StatementParser::block_statement))]
 fn block(alloc: Global, cursor: &mut Cursor<'_>, levels: u32) -> Result<Stmt, Fault>
     ensures reads { Matches result cursor.new
         (block_statement MAX_BINARY_OPERATORS levels (statement MAX_BINARY_OPERATORS levels) cursor.old) }
@@ -157,7 +157,7 @@ fn block(alloc: Global, cursor: &mut Cursor<'_>, levels: u32) -> Result<Stmt, Fa
 
 /// A statement whose level is open.
 #[cycle(statements)]
-#[tactic(auto, unfolding(c_descent::specs::StatementParser::statement_inside))]
+#[tactic(auto, unfolding(c_descent::proofs::StatementParser::statement_inside))]
 fn statement_inside(alloc: Global, cursor: &mut Cursor<'_>, levels: u32) -> Result<Stmt, Fault>
     ensures reads { Matches result cursor.new
         (statement_inside MAX_BINARY_OPERATORS levels (statement MAX_BINARY_OPERATORS levels) cursor.old) }
@@ -177,7 +177,7 @@ fn statement_inside(alloc: Global, cursor: &mut Cursor<'_>, levels: u32) -> Resu
 
 /// A statement.
 #[cycle(statements)]
-#[tactic(auto, unfolding(c_descent::specs::StatementParser::statement))]
+#[tactic(auto, unfolding(c_descent::proofs::StatementParser::statement))]
 pub fn statement(alloc: Global, cursor: &mut Cursor<'_>, levels: u32) -> Result<Stmt, Fault>
     ensures reads { Matches result cursor.new (statement MAX_BINARY_OPERATORS levels cursor.old) }
     ensures takes { TakesSome result cursor.old cursor.new }

@@ -2,7 +2,7 @@
 ghost use Rattle.std.specs.Prelude.{◌≡◌, ◌≤◌, length, [], ◌↔◌, IsTrue};
 ghost use Rattle.c_token.specs.PlainText.{kinds_of};
 ghost use Rattle.c_grammar.specs.BoundedTokens.{numbered};
-ghost use Rattle.c_descent.specs.ListParser.{kind_name, first_kind, is_left, is_some_sign, is_some_word, is_at_sign, is_at_word, passed, sign_token, word_token, name_token, number_token, place_or};
+ghost use Rattle.c_descent.proofs.ListParser.{kind_name, first_kind, is_left, is_some_sign, is_some_word, is_at_sign, is_at_word, passed, sign_token, word_token, name_token, number_token, place_or};
 ghost use Rattle.c_parser.specs.CursorAnswers.{Matches, TakesSome};
 
 use crate::fault::Fault;
@@ -91,7 +91,7 @@ impl<'a> Cursor<'a> {
     }
 
     /// Whether the first token is this sign.
-    #[tactic(auto, unfolding(c_descent::specs::ListParser::is_at_sign))]
+    #[tactic(auto, unfolding(c_descent::proofs::ListParser::is_at_sign))]
     pub fn is_at_sign(&self, sign: Sign) -> bool
         ensures { result ≡ is_at_sign sign self.now }
     {
@@ -99,7 +99,7 @@ impl<'a> Cursor<'a> {
     }
 
     /// Whether the first token is this word.
-    #[tactic(auto, unfolding(c_descent::specs::ListParser::is_at_word))]
+    #[tactic(auto, unfolding(c_descent::proofs::ListParser::is_at_word))]
     pub fn is_at_word(&self, word: Word) -> bool
         ensures { result ≡ is_at_word word self.now }
     {
@@ -123,7 +123,7 @@ impl<'a> Cursor<'a> {
     }
 
     /// Takes this sign, and answers its number.
-    #[tactic(auto, unfolding(c_descent::specs::ListParser::sign_token))]
+    #[tactic(auto, unfolding(c_descent::proofs::ListParser::sign_token))]
     pub fn sign(&mut self, wanted: Sign) -> Result<u32, Fault>
         ensures reads { Matches result self.new (sign_token wanted self.old) }
         ensures takes { TakesSome result self.old self.new }
@@ -133,7 +133,7 @@ impl<'a> Cursor<'a> {
     }
 
     /// Takes this word, and answers its number.
-    #[tactic(auto, unfolding(c_descent::specs::ListParser::word_token))]
+    #[tactic(auto, unfolding(c_descent::proofs::ListParser::word_token))]
     pub fn word(&mut self, wanted: Word) -> Result<u32, Fault>
         ensures reads { Matches result self.new (word_token wanted self.old) }
         ensures takes { TakesSome result self.old self.new }
@@ -159,7 +159,7 @@ impl<'a> Cursor<'a> {
     }
 
     /// Takes a name.
-    #[tactic(auto, unfolding(c_descent::specs::ListParser::name_token))]
+    #[tactic(auto, unfolding(c_descent::proofs::ListParser::name_token))]
     pub fn name(&mut self) -> Result<Named, Fault>
         ensures reads { Matches result self.new (name_token self.old) }
         ensures takes { TakesSome result self.old self.new }
@@ -172,7 +172,7 @@ impl<'a> Cursor<'a> {
     }
 
     /// Takes a number.
-    #[tactic(auto, unfolding(c_descent::specs::ListParser::number_token))]
+    #[tactic(auto, unfolding(c_descent::proofs::ListParser::number_token))]
     pub fn number(&mut self) -> Result<Numeral, Fault>
         ensures reads { Matches result self.new (number_token self.old) }
         ensures takes { TakesSome result self.old self.new }

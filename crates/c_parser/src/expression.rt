@@ -1,8 +1,8 @@
 //! Expressions.
 ghost use Rattle.std.specs.Prelude.{◌≡◌, ◌≤◌, ◌+◌, Some};
 ghost use Rattle.c_grammar.specs.Precedence.{loosest};
-ghost use Rattle.c_descent.specs.ListParser.{first_kind, after_comma, separated};
-ghost use Rattle.c_descent.specs.ExpressionParser.{operator_at, unary_sign, operand_of, joined_operand, chained, binary_expression, expression, paren, subscript, argument_list, arguments, element_expression, call_expression, after_name, name_expression, literal, input, primary, signed_expression, unary_expression, levels_inside, expression_at};
+ghost use Rattle.c_descent.proofs.ListParser.{first_kind, after_comma, separated};
+ghost use Rattle.c_descent.proofs.ExpressionParser.{operator_at, unary_sign, operand_of, joined_operand, chained, binary_expression, expression, paren, subscript, argument_list, arguments, element_expression, call_expression, after_name, name_expression, literal, input, primary, signed_expression, unary_expression, levels_inside, expression_at};
 ghost use Rattle.c_parser.specs.Levels.{OpensLevel, OpensInside};
 ghost use Rattle.c_parser.specs.CursorAnswers.{Matches, TakesSome, LeavesUpTo};
 
@@ -19,7 +19,7 @@ use std::alloc::Global;
 const LOOSEST: u32 = 10;
 
 /// How many levels are left when one more is opened.
-#[tactic(auto, unfolding(c_descent::specs::ExpressionParser::levels_inside, c_descent::specs::ExpressionParser::unary_expression))]
+#[tactic(auto, unfolding(c_descent::proofs::ExpressionParser::levels_inside, c_descent::proofs::ExpressionParser::unary_expression))]
 pub fn open(levels: u32) -> Result<u32, Fault>
     ensures opens { OpensLevel levels result }
     ensures inside { OpensInside MAX_BINARY_OPERATORS levels result }
@@ -32,7 +32,7 @@ pub fn open(levels: u32) -> Result<u32, Fault>
 }
 
 /// The first token, where it is an operator of this rank.
-#[tactic(auto, unfolding(c_descent::specs::ExpressionParser::operator_at))]
+#[tactic(auto, unfolding(c_descent::proofs::ExpressionParser::operator_at))]
 fn operator_at(cursor: &Cursor<'_>, rank: u32) -> Option<Sign>
     ensures { result ≡ operator_at rank cursor.now }
 {
@@ -66,7 +66,7 @@ fn operand_of(kind: Option<Kind>) -> Operand
 }
 
 /// A number.
-#[tactic(auto, unfolding(c_descent::specs::ExpressionParser::literal))]
+#[tactic(auto, unfolding(c_descent::proofs::ExpressionParser::literal))]
 fn literal(cursor: &mut Cursor<'_>) -> Result<Expr, Fault>
     ensures reads { Matches result cursor.new (literal cursor.old) }
     ensures takes { TakesSome result cursor.old cursor.new }
@@ -80,7 +80,7 @@ fn literal(cursor: &mut Cursor<'_>) -> Result<Expr, Fault>
 }
 
 /// `input()`
-#[tactic(auto, unfolding(c_descent::specs::ExpressionParser::input))]
+#[tactic(auto, unfolding(c_descent::proofs::ExpressionParser::input))]
 fn input(cursor: &mut Cursor<'_>) -> Result<Expr, Fault>
     ensures reads { Matches result cursor.new (input cursor.old) }
     ensures takes { TakesSome result cursor.old cursor.new }
@@ -93,7 +93,7 @@ fn input(cursor: &mut Cursor<'_>) -> Result<Expr, Fault>
 
 /// An operator of one operand, and the operand.
 #[cycle(expressions)]
-#[tactic(auto, unfolding(c_descent::specs::ExpressionParser::signed_expression))]
+#[tactic(auto, unfolding(c_descent::proofs::ExpressionParser::signed_expression))]
 fn signed(alloc: Global, cursor: &mut Cursor<'_>, levels: u32, op: Sign) -> Result<Expr, Fault>
     ensures reads { Matches result cursor.new
         (signed_expression (levels_inside MAX_BINARY_OPERATORS levels) op cursor.old) }
@@ -108,7 +108,7 @@ fn signed(alloc: Global, cursor: &mut Cursor<'_>, levels: u32, op: Sign) -> Resu
 
 /// `(`, an expression and `)`.
 #[cycle(expressions)]
-#[tactic(auto, unfolding(c_descent::specs::ExpressionParser::paren))]
+#[tactic(auto, unfolding(c_descent::proofs::ExpressionParser::paren))]
 fn paren(alloc: Global, cursor: &mut Cursor<'_>, levels: u32) -> Result<Expr, Fault>
     ensures reads { Matches result cursor.new
         (paren MAX_BINARY_OPERATORS (levels_inside MAX_BINARY_OPERATORS levels) cursor.old) }
@@ -124,7 +124,7 @@ fn paren(alloc: Global, cursor: &mut Cursor<'_>, levels: u32) -> Result<Expr, Fa
 
 /// `[`, an expression and `]`.
 #[cycle(expressions)]
-#[tactic(auto, unfolding(c_descent::specs::ExpressionParser::subscript))]
+#[tactic(auto, unfolding(c_descent::proofs::ExpressionParser::subscript))]
 pub fn subscript(alloc: Global, cursor: &mut Cursor<'_>, levels: u32) -> Result<Bracketed, Fault>
     ensures reads { Matches result cursor.new
         (subscript MAX_BINARY_OPERATORS (levels_inside MAX_BINARY_OPERATORS levels) cursor.old) }
@@ -139,7 +139,7 @@ pub fn subscript(alloc: Global, cursor: &mut Cursor<'_>, levels: u32) -> Result<
 
 /// A comma, and the expression after it.
 #[cycle(expressions)]
-#[tactic(auto, unfolding(c_descent::specs::ListParser::after_comma))]
+#[tactic(auto, unfolding(c_descent::proofs::ListParser::after_comma))]
 fn after_comma(alloc: Global, cursor: &mut Cursor<'_>, levels: u32) -> Result<Expr, Fault>
     ensures reads { Matches result cursor.new
         (after_comma (expression_at MAX_BINARY_OPERATORS levels) cursor.old) }
@@ -151,7 +151,7 @@ fn after_comma(alloc: Global, cursor: &mut Cursor<'_>, levels: u32) -> Result<Ex
 
 /// One or more expressions, with commas between them.
 #[cycle(expressions)]
-#[tactic(auto, unfolding(c_descent::specs::ListParser::separated))]
+#[tactic(auto, unfolding(c_descent::proofs::ListParser::separated))]
 fn separated(alloc: Global, cursor: &mut Cursor<'_>, levels: u32) -> Result<Items<Expr>, Fault>
     ensures reads { Matches result cursor.new
         (separated (expression_at MAX_BINARY_OPERATORS levels) cursor.old) }
@@ -169,7 +169,7 @@ fn separated(alloc: Global, cursor: &mut Cursor<'_>, levels: u32) -> Result<Item
 
 /// Arguments up to `)`, which is left.
 #[cycle(expressions)]
-#[tactic(auto, unfolding(c_descent::specs::ExpressionParser::argument_list))]
+#[tactic(auto, unfolding(c_descent::proofs::ExpressionParser::argument_list))]
 fn listed(alloc: Global, cursor: &mut Cursor<'_>, levels: u32) -> Result<Items<Expr>, Fault>
     ensures reads { Matches result cursor.new
         (argument_list MAX_BINARY_OPERATORS (unary_expression MAX_BINARY_OPERATORS levels) cursor.old) }
@@ -184,7 +184,7 @@ fn listed(alloc: Global, cursor: &mut Cursor<'_>, levels: u32) -> Result<Items<E
 
 /// `(`, arguments and `)`.
 #[cycle(expressions)]
-#[tactic(auto, unfolding(c_descent::specs::ExpressionParser::arguments))]
+#[tactic(auto, unfolding(c_descent::proofs::ExpressionParser::arguments))]
 pub fn arguments(alloc: Global, cursor: &mut Cursor<'_>, levels: u32) -> Result<Items<Expr>, Fault>
     ensures reads { Matches result cursor.new
         (arguments MAX_BINARY_OPERATORS (levels_inside MAX_BINARY_OPERATORS levels) cursor.old) }
@@ -199,7 +199,7 @@ pub fn arguments(alloc: Global, cursor: &mut Cursor<'_>, levels: u32) -> Result<
 
 /// `[ index ]` after a name.
 #[cycle(expressions)]
-#[tactic(auto, unfolding(c_descent::specs::ExpressionParser::element_expression))]
+#[tactic(auto, unfolding(c_descent::proofs::ExpressionParser::element_expression))]
 fn indexed(alloc: Global, cursor: &mut Cursor<'_>, levels: u32, name: Named) -> Result<Expr, Fault>
     ensures reads { Matches result cursor.new
         (element_expression MAX_BINARY_OPERATORS (levels_inside MAX_BINARY_OPERATORS levels) name cursor.old) }
@@ -216,7 +216,7 @@ fn indexed(alloc: Global, cursor: &mut Cursor<'_>, levels: u32, name: Named) -> 
 
 /// `( arguments )` after a name.
 #[cycle(expressions)]
-#[tactic(auto, unfolding(c_descent::specs::ExpressionParser::call_expression))]
+#[tactic(auto, unfolding(c_descent::proofs::ExpressionParser::call_expression))]
 fn called(alloc: Global, cursor: &mut Cursor<'_>, levels: u32, name: Named) -> Result<Expr, Fault>
     ensures reads { Matches result cursor.new
         (call_expression MAX_BINARY_OPERATORS (levels_inside MAX_BINARY_OPERATORS levels) name cursor.old) }
@@ -232,7 +232,7 @@ fn called(alloc: Global, cursor: &mut Cursor<'_>, levels: u32, name: Named) -> R
 
 /// What may stand after a name: an index, arguments, or nothing.
 #[cycle(expressions)]
-#[tactic(auto, unfolding(c_descent::specs::ExpressionParser::after_name))]
+#[tactic(auto, unfolding(c_descent::proofs::ExpressionParser::after_name))]
 fn after_name(
     alloc: Global,
     cursor: &mut Cursor<'_>,
@@ -257,7 +257,7 @@ fn after_name(
 
 /// A name, with an index or arguments.
 #[cycle(expressions)]
-#[tactic(auto, unfolding(c_descent::specs::ExpressionParser::name_expression))]
+#[tactic(auto, unfolding(c_descent::proofs::ExpressionParser::name_expression))]
 fn named(alloc: Global, cursor: &mut Cursor<'_>, levels: u32) -> Result<Expr, Fault>
     ensures reads { Matches result cursor.new
         (name_expression MAX_BINARY_OPERATORS (levels_inside MAX_BINARY_OPERATORS levels) cursor.old) }
@@ -269,7 +269,7 @@ fn named(alloc: Global, cursor: &mut Cursor<'_>, levels: u32) -> Result<Expr, Fa
 
 /// What is no operator: a number, a name, `input()` or an expression between parentheses.
 #[cycle(expressions)]
-#[tactic(auto, unfolding(c_descent::specs::ExpressionParser::primary))]
+#[tactic(auto, unfolding(c_descent::proofs::ExpressionParser::primary))]
 fn primary(alloc: Global, cursor: &mut Cursor<'_>, levels: u32) -> Result<Expr, Fault>
     ensures reads { Matches result cursor.new
         (primary MAX_BINARY_OPERATORS (levels_inside MAX_BINARY_OPERATORS levels) cursor.old) }
@@ -286,7 +286,7 @@ fn primary(alloc: Global, cursor: &mut Cursor<'_>, levels: u32) -> Result<Expr, 
 
 /// A unary expression.
 #[cycle(expressions)]
-#[tactic(auto, unfolding(c_descent::specs::ExpressionParser::unary_expression, c_descent::specs::ExpressionParser::unary_in))]
+#[tactic(auto, unfolding(c_descent::proofs::ExpressionParser::unary_expression, c_descent::proofs::ExpressionParser::unary_in))]
 fn unary(alloc: Global, cursor: &mut Cursor<'_>, levels: u32) -> Result<Expr, Fault>
     ensures reads { Matches result cursor.new (unary_expression MAX_BINARY_OPERATORS levels cursor.old) }
     ensures takes { TakesSome result cursor.old cursor.new }
@@ -300,7 +300,7 @@ fn unary(alloc: Global, cursor: &mut Cursor<'_>, levels: u32) -> Result<Expr, Fa
 /// An operator at the next token, and its right operand, whose operators have at most this rank. The left operand is
 /// here already.
 #[cycle(expressions)]
-#[tactic(auto, unfolding(c_descent::specs::ExpressionParser::joined_operand))]
+#[tactic(auto, unfolding(c_descent::proofs::ExpressionParser::joined_operand))]
 fn joined(
     alloc: Global,
     cursor: &mut Cursor<'_>,
@@ -335,7 +335,7 @@ fn joined(
 
 /// The operators of the rank above this one and their right operands, all grouping to the left.
 #[cycle(expressions)]
-#[tactic(auto, unfolding(c_descent::specs::ExpressionParser::chained))]
+#[tactic(auto, unfolding(c_descent::proofs::ExpressionParser::chained))]
 fn chained(
     alloc: Global,
     cursor: &mut Cursor<'_>,
@@ -358,7 +358,7 @@ fn chained(
 
 /// An expression whose operators have at most this rank, where so many operators stand before it in the whole one.
 #[cycle(expressions)]
-#[tactic(auto, unfolding(c_descent::specs::ExpressionParser::binary_expression))]
+#[tactic(auto, unfolding(c_descent::proofs::ExpressionParser::binary_expression))]
 fn binary(
     alloc: Global,
     cursor: &mut Cursor<'_>,
@@ -381,7 +381,7 @@ fn binary(
 
 /// An expression.
 #[cycle(expressions)]
-#[tactic(auto, unfolding(c_descent::specs::ExpressionParser::expression))]
+#[tactic(auto, unfolding(c_descent::proofs::ExpressionParser::expression))]
 pub fn expression(alloc: Global, cursor: &mut Cursor<'_>, levels: u32) -> Result<Expr, Fault>
     ensures reads { Matches result cursor.new (expression_at MAX_BINARY_OPERATORS levels cursor.old) }
     ensures takes { TakesSome result cursor.old cursor.new }

@@ -1,7 +1,7 @@
 //! Locals and statements.
 ghost use Rattle.std.specs.Prelude.{◌≡◌};
-ghost use Rattle.c_descent.specs.ListParser.{follow, gives, sign_token};
-ghost use Rattle.c_descent.specs.StatementParser.{statement_start, start_at, plain_of, plain_at, begins_statement, begins_simple, int_type, optional_int, unsigned_type, type_name, expression_unless, optional_value, local_inside, local_statement, assignment_rest, element_assigned, call_statement, after_statement_name, name_statement, parenthesised_test, release, check, simple_inside, simple, plain_inside, ended, empty, returned, break_statement, continue_statement, while_loop, optional_else, conditional, first_part, step_part, opening, test_part, closing, head, for_loop, entry, entries, braced, block_statement, statement_inside, barred, statement};
+ghost use Rattle.c_descent.proofs.ListParser.{follow, gives, sign_token};
+ghost use Rattle.c_descent.proofs.StatementParser.{statement_start, start_at, plain_of, plain_at, begins_statement, begins_simple, int_type, optional_int, unsigned_type, type_name, expression_unless, optional_value, local_inside, local_statement, assignment_rest, element_assigned, call_statement, after_statement_name, name_statement, parenthesised_test, release, check, simple_inside, simple, plain_inside, ended, empty, returned, break_statement, continue_statement, while_loop, optional_else, conditional, first_part, step_part, opening, test_part, closing, head, for_loop, entry, entries, braced, block_statement, statement_inside, barred, statement};
 ghost use Rattle.c_parser.specs.CursorAnswers.{Matches, StopsWith, TakesSome, LeavesUpTo};
 
 use crate::cursor::Cursor;
@@ -39,7 +39,7 @@ fn start_of(kind: Option<Kind>) -> Start
 }
 
 /// What the first token begins in a block.
-#[tactic(auto, unfolding(c_descent::specs::StatementParser::start_at))]
+#[tactic(auto, unfolding(c_descent::proofs::StatementParser::start_at))]
 pub fn start_at(cursor: &Cursor<'_>) -> Start
     ensures { result ≡ start_at cursor.now }
 {
@@ -65,7 +65,7 @@ fn plain_of(kind: Option<Kind>) -> Plain
 }
 
 /// Which statement of those that a `;` ends the first token begins.
-#[tactic(auto, unfolding(c_descent::specs::StatementParser::plain_at))]
+#[tactic(auto, unfolding(c_descent::proofs::StatementParser::plain_at))]
 fn plain_at(cursor: &Cursor<'_>) -> Plain
     ensures { result ≡ plain_at cursor.now }
 {
@@ -93,7 +93,7 @@ fn begins_simple(plain: Plain) -> bool
 }
 
 /// `int`, which is not unsigned.
-#[tactic(auto, unfolding(c_descent::specs::StatementParser::int_type))]
+#[tactic(auto, unfolding(c_descent::proofs::StatementParser::int_type))]
 fn int_type(cursor: &mut Cursor<'_>) -> Result<bool, Fault>
     ensures reads { Matches result cursor.new (int_type cursor.old) }
     ensures takes { TakesSome result cursor.old cursor.new }
@@ -103,7 +103,7 @@ fn int_type(cursor: &mut Cursor<'_>) -> Result<bool, Fault>
 }
 
 /// The word `int`, if it stands there.
-#[tactic(auto, unfolding(c_descent::specs::StatementParser::optional_int))]
+#[tactic(auto, unfolding(c_descent::proofs::StatementParser::optional_int))]
 fn optional_int(cursor: &mut Cursor<'_>) -> Result<bool, Fault>
     ensures reads { Matches result cursor.new (optional_int cursor.old) }
     ensures takes { LeavesUpTo result cursor.old cursor.new }
@@ -116,7 +116,7 @@ fn optional_int(cursor: &mut Cursor<'_>) -> Result<bool, Fault>
 }
 
 /// `unsigned` or `unsigned int`.
-#[tactic(auto, unfolding(c_descent::specs::StatementParser::unsigned_type))]
+#[tactic(auto, unfolding(c_descent::proofs::StatementParser::unsigned_type))]
 fn unsigned_type(cursor: &mut Cursor<'_>) -> Result<bool, Fault>
     ensures reads { Matches result cursor.new (unsigned_type cursor.old) }
     ensures takes { TakesSome result cursor.old cursor.new }
@@ -126,7 +126,7 @@ fn unsigned_type(cursor: &mut Cursor<'_>) -> Result<bool, Fault>
 }
 
 /// A type, and whether it is `unsigned`.
-#[tactic(auto, unfolding(c_descent::specs::StatementParser::type_name))]
+#[tactic(auto, unfolding(c_descent::proofs::StatementParser::type_name))]
 pub fn type_name(cursor: &mut Cursor<'_>) -> Result<bool, Fault>
     ensures reads { Matches result cursor.new (type_name cursor.old) }
     ensures takes { TakesSome result cursor.old cursor.new }
@@ -139,7 +139,7 @@ pub fn type_name(cursor: &mut Cursor<'_>) -> Result<bool, Fault>
 }
 
 /// An expression, or none where nothing stands there.
-#[tactic(auto, unfolding(c_descent::specs::StatementParser::expression_unless))]
+#[tactic(auto, unfolding(c_descent::proofs::StatementParser::expression_unless))]
 fn expression_unless(
     alloc: Global,
     cursor: &mut Cursor<'_>,
@@ -158,7 +158,7 @@ fn expression_unless(
 }
 
 /// `= value`, if it stands there.
-#[tactic(auto, unfolding(c_descent::specs::StatementParser::optional_value))]
+#[tactic(auto, unfolding(c_descent::proofs::StatementParser::optional_value))]
 fn optional_value(
     alloc: Global,
     cursor: &mut Cursor<'_>,
@@ -176,7 +176,7 @@ fn optional_value(
 }
 
 /// A local, whose level is open.
-#[tactic(auto, unfolding(c_descent::specs::StatementParser::local_inside))]
+#[tactic(auto, unfolding(c_descent::proofs::StatementParser::local_inside))]
 fn local_inside(alloc: Global, cursor: &mut Cursor<'_>, levels: u32) -> Result<Stmt, Fault>
     ensures reads { Matches result cursor.new (local_inside MAX_BINARY_OPERATORS levels cursor.old) }
     ensures takes { TakesSome result cursor.old cursor.new }
@@ -193,7 +193,7 @@ fn local_inside(alloc: Global, cursor: &mut Cursor<'_>, levels: u32) -> Result<S
 }
 
 /// A local, which is a statement of its own.
-#[tactic(auto, unfolding(c_descent::specs::StatementParser::local_statement))]
+#[tactic(auto, unfolding(c_descent::proofs::StatementParser::local_statement))]
 fn local(alloc: Global, cursor: &mut Cursor<'_>, levels: u32) -> Result<Stmt, Fault>
     ensures reads { Matches result cursor.new (local_statement MAX_BINARY_OPERATORS levels cursor.old) }
     ensures takes { TakesSome result cursor.old cursor.new }
@@ -203,7 +203,7 @@ fn local(alloc: Global, cursor: &mut Cursor<'_>, levels: u32) -> Result<Stmt, Fa
 }
 
 /// `= value` after what is assigned to.
-#[tactic(auto, unfolding(c_descent::specs::StatementParser::assignment_rest))]
+#[tactic(auto, unfolding(c_descent::proofs::StatementParser::assignment_rest))]
 fn assigned(
     alloc: Global,
     cursor: &mut Cursor<'_>,
@@ -226,7 +226,7 @@ fn assigned(
 }
 
 /// `[ index ] = value` after a name.
-#[tactic(auto, unfolding(c_descent::specs::StatementParser::element_assigned))]
+#[tactic(auto, unfolding(c_descent::proofs::StatementParser::element_assigned))]
 fn element_assigned(
     alloc: Global,
     cursor: &mut Cursor<'_>,
@@ -242,7 +242,7 @@ fn element_assigned(
 }
 
 /// `( arguments )` after a name.
-#[tactic(auto, unfolding(c_descent::specs::StatementParser::call_statement))]
+#[tactic(auto, unfolding(c_descent::proofs::StatementParser::call_statement))]
 fn call(alloc: Global, cursor: &mut Cursor<'_>, levels: u32, found: Named) -> Result<Stmt, Fault>
     ensures reads { Matches result cursor.new (call_statement MAX_BINARY_OPERATORS levels found cursor.old) }
     ensures takes { TakesSome result cursor.old cursor.new }
@@ -256,7 +256,7 @@ fn call(alloc: Global, cursor: &mut Cursor<'_>, levels: u32, found: Named) -> Re
 }
 
 /// What stands after the name that a statement begins with.
-#[tactic(auto, unfolding(c_descent::specs::StatementParser::after_statement_name))]
+#[tactic(auto, unfolding(c_descent::proofs::StatementParser::after_statement_name))]
 fn after_name(
     alloc: Global,
     cursor: &mut Cursor<'_>,
@@ -277,7 +277,7 @@ fn after_name(
 }
 
 /// An assignment or a call.
-#[tactic(auto, unfolding(c_descent::specs::StatementParser::name_statement))]
+#[tactic(auto, unfolding(c_descent::proofs::StatementParser::name_statement))]
 fn named(alloc: Global, cursor: &mut Cursor<'_>, levels: u32) -> Result<Stmt, Fault>
     ensures reads { Matches result cursor.new (name_statement MAX_BINARY_OPERATORS levels cursor.old) }
     ensures takes { TakesSome result cursor.old cursor.new }
@@ -287,7 +287,7 @@ fn named(alloc: Global, cursor: &mut Cursor<'_>, levels: u32) -> Result<Stmt, Fa
 }
 
 /// `( value )`
-#[tactic(auto, unfolding(c_descent::specs::StatementParser::parenthesised_test))]
+#[tactic(auto, unfolding(c_descent::proofs::StatementParser::parenthesised_test))]
 pub fn condition(alloc: Global, cursor: &mut Cursor<'_>, levels: u32) -> Result<Expr, Fault>
     ensures reads { Matches result cursor.new (parenthesised_test MAX_BINARY_OPERATORS levels cursor.old) }
     ensures takes { TakesSome result cursor.old cursor.new }
@@ -299,7 +299,7 @@ pub fn condition(alloc: Global, cursor: &mut Cursor<'_>, levels: u32) -> Result<
 }
 
 /// `release ( value )`
-#[tactic(auto, unfolding(c_descent::specs::StatementParser::release))]
+#[tactic(auto, unfolding(c_descent::proofs::StatementParser::release))]
 fn release(alloc: Global, cursor: &mut Cursor<'_>, levels: u32) -> Result<Stmt, Fault>
     ensures reads { Matches result cursor.new (release MAX_BINARY_OPERATORS levels cursor.old) }
     ensures takes { TakesSome result cursor.old cursor.new }
@@ -310,7 +310,7 @@ fn release(alloc: Global, cursor: &mut Cursor<'_>, levels: u32) -> Result<Stmt, 
 }
 
 /// `check ( )`
-#[tactic(auto, unfolding(c_descent::specs::StatementParser::check))]
+#[tactic(auto, unfolding(c_descent::proofs::StatementParser::check))]
 fn check(cursor: &mut Cursor<'_>) -> Result<Stmt, Fault>
     ensures reads { Matches result cursor.new (check cursor.old) }
     ensures takes { TakesSome result cursor.old cursor.new }
@@ -322,7 +322,7 @@ fn check(cursor: &mut Cursor<'_>) -> Result<Stmt, Fault>
 }
 
 /// A simple statement without its `;`, whose level is open.
-#[tactic(auto, unfolding(c_descent::specs::StatementParser::simple_inside))]
+#[tactic(auto, unfolding(c_descent::proofs::StatementParser::simple_inside))]
 fn simple_inside(alloc: Global, cursor: &mut Cursor<'_>, levels: u32) -> Result<Stmt, Fault>
     ensures reads { Matches result cursor.new (simple_inside MAX_BINARY_OPERATORS levels cursor.old) }
     ensures takes { TakesSome result cursor.old cursor.new }
@@ -336,7 +336,7 @@ fn simple_inside(alloc: Global, cursor: &mut Cursor<'_>, levels: u32) -> Result<
 }
 
 /// A simple part of the head of a `for`, which is a statement of its own.
-#[tactic(auto, unfolding(c_descent::specs::StatementParser::simple))]
+#[tactic(auto, unfolding(c_descent::proofs::StatementParser::simple))]
 fn simple(alloc: Global, cursor: &mut Cursor<'_>, levels: u32) -> Result<Stmt, Fault>
     ensures reads { Matches result cursor.new (simple MAX_BINARY_OPERATORS levels cursor.old) }
     ensures takes { TakesSome result cursor.old cursor.new }
@@ -349,7 +349,7 @@ fn simple(alloc: Global, cursor: &mut Cursor<'_>, levels: u32) -> Result<Stmt, F
 }
 
 /// `return` and a value, if one stands there.
-#[tactic(auto, unfolding(c_descent::specs::StatementParser::returned))]
+#[tactic(auto, unfolding(c_descent::proofs::StatementParser::returned))]
 fn returned(alloc: Global, cursor: &mut Cursor<'_>, levels: u32) -> Result<Stmt, Fault>
     ensures reads { Matches result cursor.new (returned MAX_BINARY_OPERATORS levels cursor.old) }
     ensures takes { TakesSome result cursor.old cursor.new }
@@ -361,7 +361,7 @@ fn returned(alloc: Global, cursor: &mut Cursor<'_>, levels: u32) -> Result<Stmt,
 }
 
 /// `break`
-#[tactic(auto, unfolding(c_descent::specs::StatementParser::break_statement))]
+#[tactic(auto, unfolding(c_descent::proofs::StatementParser::break_statement))]
 fn break_statement(cursor: &mut Cursor<'_>) -> Result<Stmt, Fault>
     ensures reads { Matches result cursor.new (break_statement cursor.old) }
     ensures takes { TakesSome result cursor.old cursor.new }
@@ -371,7 +371,7 @@ fn break_statement(cursor: &mut Cursor<'_>) -> Result<Stmt, Fault>
 }
 
 /// `continue`
-#[tactic(auto, unfolding(c_descent::specs::StatementParser::continue_statement))]
+#[tactic(auto, unfolding(c_descent::proofs::StatementParser::continue_statement))]
 fn continue_statement(cursor: &mut Cursor<'_>) -> Result<Stmt, Fault>
     ensures reads { Matches result cursor.new (continue_statement cursor.old) }
     ensures takes { TakesSome result cursor.old cursor.new }
@@ -381,7 +381,7 @@ fn continue_statement(cursor: &mut Cursor<'_>) -> Result<Stmt, Fault>
 }
 
 /// `;`
-#[tactic(auto, unfolding(c_descent::specs::StatementParser::empty))]
+#[tactic(auto, unfolding(c_descent::proofs::StatementParser::empty))]
 pub fn empty(cursor: &mut Cursor<'_>) -> Result<Stmt, Fault>
     ensures reads { Matches result cursor.new (empty cursor.old) }
     ensures takes { TakesSome result cursor.old cursor.new }
@@ -391,7 +391,7 @@ pub fn empty(cursor: &mut Cursor<'_>) -> Result<Stmt, Fault>
 }
 
 /// What a `;` ends, whose level is open.
-#[tactic(auto, unfolding(c_descent::specs::StatementParser::plain_inside))]
+#[tactic(auto, unfolding(c_descent::proofs::StatementParser::plain_inside))]
 fn plain_inside(alloc: Global, cursor: &mut Cursor<'_>, levels: u32) -> Result<Stmt, Fault>
     ensures reads { Matches result cursor.new (plain_inside MAX_BINARY_OPERATORS levels cursor.old) }
     ensures takes { TakesSome result cursor.old cursor.new }
@@ -408,7 +408,7 @@ fn plain_inside(alloc: Global, cursor: &mut Cursor<'_>, levels: u32) -> Result<S
 }
 
 /// A local or a statement and the `;` that ends it.
-#[tactic(auto, unfolding(c_descent::specs::StatementParser::ended))]
+#[tactic(auto, unfolding(c_descent::proofs::StatementParser::ended))]
 pub fn plain_ended(alloc: Global, cursor: &mut Cursor<'_>, levels: u32) -> Result<Stmt, Fault>
     ensures reads { Matches result cursor.new
         (ended (plain_inside MAX_BINARY_OPERATORS levels) cursor.old) }
@@ -420,7 +420,7 @@ pub fn plain_ended(alloc: Global, cursor: &mut Cursor<'_>, levels: u32) -> Resul
 }
 
 /// A local and its `;`.
-#[tactic(auto, unfolding(c_descent::specs::StatementParser::ended))]
+#[tactic(auto, unfolding(c_descent::proofs::StatementParser::ended))]
 pub fn local_ended(alloc: Global, cursor: &mut Cursor<'_>, levels: u32) -> Result<Stmt, Fault>
     ensures reads { Matches result cursor.new
         (ended (local_statement MAX_BINARY_OPERATORS levels) cursor.old) }
@@ -432,7 +432,7 @@ pub fn local_ended(alloc: Global, cursor: &mut Cursor<'_>, levels: u32) -> Resul
 }
 
 /// A part of the head of a `for` that stands there.
-#[tactic(auto, unfolding(c_descent::specs::StatementParser::first_part))]
+#[tactic(auto, unfolding(c_descent::proofs::StatementParser::first_part))]
 fn first_part(
     alloc: Global,
     cursor: &mut Cursor<'_>,
@@ -455,7 +455,7 @@ fn first_part(
 }
 
 /// The last part of the head of a `for`: a simple part or nothing.
-#[tactic(auto, unfolding(c_descent::specs::StatementParser::step_part))]
+#[tactic(auto, unfolding(c_descent::proofs::StatementParser::step_part))]
 fn step_part(
     alloc: Global,
     cursor: &mut Cursor<'_>,
@@ -472,7 +472,7 @@ fn step_part(
 }
 
 /// `( first ;`
-#[tactic(auto, unfolding(c_descent::specs::StatementParser::opening))]
+#[tactic(auto, unfolding(c_descent::proofs::StatementParser::opening))]
 fn opening(
     alloc: Global,
     cursor: &mut Cursor<'_>,
@@ -488,7 +488,7 @@ fn opening(
 }
 
 /// `test ;`
-#[tactic(auto, unfolding(c_descent::specs::StatementParser::test_part))]
+#[tactic(auto, unfolding(c_descent::proofs::StatementParser::test_part))]
 fn test_part(alloc: Global, cursor: &mut Cursor<'_>, levels: u32) -> Result<Option<Expr>, Fault>
     ensures reads { Matches result cursor.new (test_part MAX_BINARY_OPERATORS levels cursor.old) }
     ensures takes { TakesSome result cursor.old cursor.new }
@@ -500,7 +500,7 @@ fn test_part(alloc: Global, cursor: &mut Cursor<'_>, levels: u32) -> Result<Opti
 }
 
 /// `step )`
-#[tactic(auto, unfolding(c_descent::specs::StatementParser::closing))]
+#[tactic(auto, unfolding(c_descent::proofs::StatementParser::closing))]
 fn closing(
     alloc: Global,
     cursor: &mut Cursor<'_>,
@@ -515,7 +515,7 @@ fn closing(
 }
 
 /// `( first ; test ; step )`
-#[tactic(auto, unfolding(c_descent::specs::StatementParser::head))]
+#[tactic(auto, unfolding(c_descent::proofs::StatementParser::head))]
 pub fn head(alloc: Global, cursor: &mut Cursor<'_>, levels: u32) -> Result<LoopHead, Fault>
     ensures reads { Matches result cursor.new (head MAX_BINARY_OPERATORS levels cursor.old) }
     ensures takes { TakesSome result cursor.old cursor.new }
@@ -527,7 +527,7 @@ pub fn head(alloc: Global, cursor: &mut Cursor<'_>, levels: u32) -> Result<LoopH
 }
 
 /// Why no statement is read where no level is left: it would open one too many.
-#[tactic(auto, unfolding(c_descent::specs::StatementParser::barred))]
+#[tactic(auto, unfolding(c_descent::proofs::StatementParser::barred))]
 pub fn barred(cursor: &Cursor<'_>) -> Fault
     ensures { StopsWith result cursor.now (barred cursor.now) }
 {

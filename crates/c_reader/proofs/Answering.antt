@@ -7,7 +7,7 @@ use Rattle.c_token.specs.PlainText.{kinds_of}
 use Rattle.c_token.specs.TextTokens.{tokens_of}
 use Rattle.c_grammar.specs.declared.item.Program.{Program}
 use Rattle.c_grammar.specs.TokenPrograms.{AreProgram, IsExpectedAt, IsDeepAt, IsShallowBefore}
-use Rattle.c_descent.specs.DescentLaws.{parsed}
+use Rattle.c_parser.specs.DescentLaws.{parsed}
 use Rattle.c_descent.proofs.Answered.{reads, refused_expected, refused_deep, one_program}
 use Rattle.c_reader.specs.declared.error.SyntaxError.{SyntaxError}
 use Rattle.c_reader.specs.declared.error.SyntaxError.TheVariants as error

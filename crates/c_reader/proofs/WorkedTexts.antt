@@ -16,9 +16,9 @@ use Rattle.c_grammar.specs.declared.item.Program.{Program}
 use Rattle.c_grammar.specs.BoundedTokens.{numbered}
 use Rattle.c_grammar.specs.TokenPrograms.{HasProgram, IsExpectedAt, IsShallowBefore}
 use Rattle.c_grammar.proofs.PlaceLaws.{expected-one, expected-deep}
-use Rattle.c_descent.specs.ListParser.{sign_token, word_token, name_token, number_token, many, all, is_at_sign, is_at_word}
-use Rattle.c_descent.specs.StatementParser as st
-use Rattle.c_descent.specs.ProgramParser as p
+use Rattle.c_descent.proofs.ListParser.{sign_token, word_token, name_token, number_token, many, all, is_at_sign, is_at_word}
+use Rattle.c_descent.proofs.StatementParser as st
+use Rattle.c_descent.proofs.ProgramParser as p
 use Rattle.c_descent.proofs.Answered.{reads, refused_expected}
 use Rattle.c_descent.proofs.WorkedPlaces.{deep_text, deep_at_71}
 use Rattle.c_reader.specs.declared.error.SyntaxError.TheVariants.{Expected, Deep}

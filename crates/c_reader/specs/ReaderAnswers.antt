@@ -2,7 +2,7 @@
 use Rattle.std.specs.Prelude.{◌≡◌, ℕ, List, [], Result, Ok, Err}
 use Rattle.c_grammar.specs.declared.item.Program.{Program}
 use Rattle.c_grammar.specs.BoundedTokens.{Tok}
-use Rattle.c_descent.specs.ListParser.{expected, deep, ParseOutcome, done, stop, place_or}
+use Rattle.c_descent.proofs.ListParser.{expected, deep, ParseOutcome, done, stop, place_or}
 use Rattle.c_reader.specs.declared.error.SyntaxError.{SyntaxError}
 use Rattle.c_reader.specs.declared.error.SyntaxError.TheVariants as error
 

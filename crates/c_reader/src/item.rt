@@ -1,7 +1,7 @@
 //! Items, and whole programs.
 ghost use Rattle.std.specs.Prelude.{◌≡◌, [], OnOk};
-ghost use Rattle.c_descent.specs.StatementParser.{statement};
-ghost use Rattle.c_descent.specs.ProgramParser.{heading_of, heading_at, optional_length, object_rest, object, value_with, negative_value, value, one_value, braced_values, values, constant_rest, constant, no_parameters, untrusted, one_parameter, void_list, parameter_list, parameters, function_rest, void_function, storage_of, result_kind, typed_rest, typed_item, declared, private_item, item_inside, items, program};
+ghost use Rattle.c_descent.proofs.StatementParser.{statement};
+ghost use Rattle.c_descent.proofs.ProgramParser.{heading_of, heading_at, optional_length, object_rest, object, value_with, negative_value, value, one_value, braced_values, values, constant_rest, constant, no_parameters, untrusted, one_parameter, void_list, parameter_list, parameters, function_rest, void_function, storage_of, result_kind, typed_rest, typed_item, declared, private_item, item_inside, items, program};
 ghost use Rattle.c_parser.specs.CursorAnswers.{Matches, TakesSome, LeavesUpTo};
 
 use crate::list::{Part, separated};
@@ -34,7 +34,7 @@ fn heading_of(kind: Option<Kind>) -> Heading
 }
 
 /// What the first token begins at the top of a program.
-#[tactic(auto, unfolding(c_descent::specs::ProgramParser::heading_at))]
+#[tactic(auto, unfolding(c_descent::proofs::ProgramParser::heading_at))]
 fn heading_at(cursor: &Cursor<'_>) -> Heading
     ensures { result ≡ heading_at cursor.now }
 {
@@ -42,7 +42,7 @@ fn heading_at(cursor: &Cursor<'_>) -> Heading
 }
 
 /// `[ length ]`, if it stands there.
-#[tactic(auto, unfolding(c_descent::specs::ProgramParser::optional_length))]
+#[tactic(auto, unfolding(c_descent::proofs::ProgramParser::optional_length))]
 fn optional_length(cursor: &mut Cursor<'_>) -> Result<Option<u32>, Fault>
     ensures reads { Matches result cursor.new (optional_length cursor.old) }
     ensures takes { LeavesUpTo result cursor.old cursor.new }
@@ -57,7 +57,7 @@ fn optional_length(cursor: &mut Cursor<'_>) -> Result<Option<u32>, Fault>
 }
 
 /// What stands after the name of an object.
-#[tactic(auto, unfolding(c_descent::specs::ProgramParser::object_rest))]
+#[tactic(auto, unfolding(c_descent::proofs::ProgramParser::object_rest))]
 fn object_rest(
     cursor: &mut Cursor<'_>,
     class: Storage,
@@ -79,7 +79,7 @@ fn object_rest(
 }
 
 /// A word of storage, and the object after it.
-#[tactic(auto, unfolding(c_descent::specs::ProgramParser::object))]
+#[tactic(auto, unfolding(c_descent::proofs::ProgramParser::object))]
 fn object(cursor: &mut Cursor<'_>, word: Word, class: Storage) -> Result<Item, Fault>
     ensures reads { Matches result cursor.new (object word class cursor.old) }
     ensures takes { TakesSome result cursor.old cursor.new }
@@ -91,7 +91,7 @@ fn object(cursor: &mut Cursor<'_>, word: Word, class: Storage) -> Result<Item, F
 }
 
 /// A number, of this sign.
-#[tactic(auto, unfolding(c_descent::specs::ProgramParser::value_with))]
+#[tactic(auto, unfolding(c_descent::proofs::ProgramParser::value_with))]
 fn value_with(cursor: &mut Cursor<'_>, negative: bool) -> Result<Value, Fault>
     ensures reads { Matches result cursor.new (value_with negative cursor.old) }
     ensures takes { TakesSome result cursor.old cursor.new }
@@ -105,7 +105,7 @@ fn value_with(cursor: &mut Cursor<'_>, negative: bool) -> Result<Value, Fault>
 }
 
 /// `-` and a number.
-#[tactic(auto, unfolding(c_descent::specs::ProgramParser::negative_value))]
+#[tactic(auto, unfolding(c_descent::proofs::ProgramParser::negative_value))]
 fn negative_value(cursor: &mut Cursor<'_>) -> Result<Value, Fault>
     ensures reads { Matches result cursor.new (negative_value cursor.old) }
     ensures takes { TakesSome result cursor.old cursor.new }
@@ -118,7 +118,7 @@ fn negative_value(cursor: &mut Cursor<'_>) -> Result<Value, Fault>
 impl Part for Value {
     ghost parser = { value };
 
-    #[tactic(auto, unfolding(c_descent::specs::ProgramParser::value))]
+    #[tactic(auto, unfolding(c_descent::proofs::ProgramParser::value))]
     fn read(cursor: &mut Cursor<'_>) -> Result<Value, Fault> {
         if cursor.is_at_sign(Sign::Minus) {
             negative_value(cursor)
@@ -129,7 +129,7 @@ impl Part for Value {
 }
 
 /// A value alone.
-#[tactic(auto, unfolding(c_descent::specs::ProgramParser::one_value))]
+#[tactic(auto, unfolding(c_descent::proofs::ProgramParser::one_value))]
 fn one_value(alloc: Global, cursor: &mut Cursor<'_>) -> Result<Given, Fault>
     ensures reads { Matches result cursor.new (one_value cursor.old) }
     ensures takes { TakesSome result cursor.old cursor.new }
@@ -144,7 +144,7 @@ fn one_value(alloc: Global, cursor: &mut Cursor<'_>) -> Result<Given, Fault>
 }
 
 /// Values between braces.
-#[tactic(auto, unfolding(c_descent::specs::ProgramParser::braced_values))]
+#[tactic(auto, unfolding(c_descent::proofs::ProgramParser::braced_values))]
 fn braced_values(alloc: Global, cursor: &mut Cursor<'_>) -> Result<Given, Fault>
     ensures reads { Matches result cursor.new (braced_values cursor.old) }
     ensures takes { TakesSome result cursor.old cursor.new }
@@ -159,7 +159,7 @@ fn braced_values(alloc: Global, cursor: &mut Cursor<'_>) -> Result<Given, Fault>
 }
 
 /// What a constant is given.
-#[tactic(auto, unfolding(c_descent::specs::ProgramParser::values))]
+#[tactic(auto, unfolding(c_descent::proofs::ProgramParser::values))]
 fn values(alloc: Global, cursor: &mut Cursor<'_>) -> Result<Given, Fault>
     ensures reads { Matches result cursor.new (values cursor.old) }
     ensures takes { TakesSome result cursor.old cursor.new }
@@ -172,7 +172,7 @@ fn values(alloc: Global, cursor: &mut Cursor<'_>) -> Result<Given, Fault>
 }
 
 /// What stands after the name of a constant.
-#[tactic(auto, unfolding(c_descent::specs::ProgramParser::constant_rest))]
+#[tactic(auto, unfolding(c_descent::proofs::ProgramParser::constant_rest))]
 fn constant_rest(
     alloc: Global,
     cursor: &mut Cursor<'_>,
@@ -197,7 +197,7 @@ fn constant_rest(
 }
 
 /// A constant.
-#[tactic(auto, unfolding(c_descent::specs::ProgramParser::constant))]
+#[tactic(auto, unfolding(c_descent::proofs::ProgramParser::constant))]
 fn constant(alloc: Global, cursor: &mut Cursor<'_>) -> Result<Item, Fault>
     ensures reads { Matches result cursor.new (constant cursor.old) }
     ensures takes { TakesSome result cursor.old cursor.new }
@@ -209,7 +209,7 @@ fn constant(alloc: Global, cursor: &mut Cursor<'_>) -> Result<Item, Fault>
 }
 
 /// `( void ) ;`
-#[tactic(auto, unfolding(c_descent::specs::ProgramParser::no_parameters))]
+#[tactic(auto, unfolding(c_descent::proofs::ProgramParser::no_parameters))]
 fn no_parameters(cursor: &mut Cursor<'_>) -> Result<u32, Fault>
     ensures reads { Matches result cursor.new (no_parameters cursor.old) }
     ensures takes { TakesSome result cursor.old cursor.new }
@@ -221,7 +221,7 @@ fn no_parameters(cursor: &mut Cursor<'_>) -> Result<u32, Fault>
 }
 
 /// A function of the untrusted code.
-#[tactic(auto, unfolding(c_descent::specs::ProgramParser::untrusted))]
+#[tactic(auto, unfolding(c_descent::proofs::ProgramParser::untrusted))]
 fn untrusted(cursor: &mut Cursor<'_>) -> Result<Item, Fault>
     ensures reads { Matches result cursor.new (untrusted cursor.old) }
     ensures takes { TakesSome result cursor.old cursor.new }
@@ -240,7 +240,7 @@ fn untrusted(cursor: &mut Cursor<'_>) -> Result<Item, Fault>
 impl Part for Parameter {
     ghost parser = { one_parameter };
 
-    #[tactic(auto, unfolding(c_descent::specs::ProgramParser::one_parameter))]
+    #[tactic(auto, unfolding(c_descent::proofs::ProgramParser::one_parameter))]
     fn read(cursor: &mut Cursor<'_>) -> Result<Parameter, Fault> {
         let unsigned = type_name(cursor)?;
         let found = cursor.name()?;
@@ -253,7 +253,7 @@ impl Part for Parameter {
 }
 
 /// The word `void` in the place of parameters.
-#[tactic(auto, unfolding(c_descent::specs::ProgramParser::void_list))]
+#[tactic(auto, unfolding(c_descent::proofs::ProgramParser::void_list))]
 fn void_list(alloc: Global, cursor: &mut Cursor<'_>) -> Result<Items<Parameter>, Fault>
     ensures reads { Matches result cursor.new (void_list cursor.old) }
     ensures takes { TakesSome result cursor.old cursor.new }
@@ -263,7 +263,7 @@ fn void_list(alloc: Global, cursor: &mut Cursor<'_>) -> Result<Items<Parameter>,
 }
 
 /// Parameters, `void` or nothing, up to `)`, which is left.
-#[tactic(auto, unfolding(c_descent::specs::ProgramParser::parameter_list))]
+#[tactic(auto, unfolding(c_descent::proofs::ProgramParser::parameter_list))]
 fn listed(alloc: Global, cursor: &mut Cursor<'_>) -> Result<Items<Parameter>, Fault>
     ensures reads { Matches result cursor.new (parameter_list cursor.old) }
     ensures takes { LeavesUpTo result cursor.old cursor.new }
@@ -278,7 +278,7 @@ fn listed(alloc: Global, cursor: &mut Cursor<'_>) -> Result<Items<Parameter>, Fa
 }
 
 /// `(`, parameters and `)`.
-#[tactic(auto, unfolding(c_descent::specs::ProgramParser::parameters))]
+#[tactic(auto, unfolding(c_descent::proofs::ProgramParser::parameters))]
 fn parameters(alloc: Global, cursor: &mut Cursor<'_>) -> Result<Items<Parameter>, Fault>
     ensures reads { Matches result cursor.new (parameters cursor.old) }
     ensures takes { TakesSome result cursor.old cursor.new }
@@ -290,7 +290,7 @@ fn parameters(alloc: Global, cursor: &mut Cursor<'_>) -> Result<Items<Parameter>
 }
 
 /// What stands after the name of a function.
-#[tactic(auto, unfolding(c_descent::specs::ProgramParser::function_rest))]
+#[tactic(auto, unfolding(c_descent::proofs::ProgramParser::function_rest))]
 fn function_rest(
     alloc: Global,
     cursor: &mut Cursor<'_>,
@@ -315,7 +315,7 @@ fn function_rest(
 }
 
 /// A function that answers nothing.
-#[tactic(auto, unfolding(c_descent::specs::ProgramParser::void_function))]
+#[tactic(auto, unfolding(c_descent::proofs::ProgramParser::void_function))]
 fn void_function(alloc: Global, cursor: &mut Cursor<'_>, private: bool) -> Result<Item, Fault>
     ensures reads { Matches result cursor.new
         (void_function MAX_BINARY_OPERATORS MAX_NESTING private cursor.old) }
@@ -349,7 +349,7 @@ fn result_of(unsigned: bool) -> Kind3
 }
 
 /// What stands after a type and a name: a function's parameters, or the rest of an object.
-#[tactic(auto, unfolding(c_descent::specs::ProgramParser::typed_rest))]
+#[tactic(auto, unfolding(c_descent::proofs::ProgramParser::typed_rest))]
 fn typed_rest(
     alloc: Global,
     cursor: &mut Cursor<'_>,
@@ -370,7 +370,7 @@ fn typed_rest(
 }
 
 /// A type, and the function or the object after it.
-#[tactic(auto, unfolding(c_descent::specs::ProgramParser::typed_item))]
+#[tactic(auto, unfolding(c_descent::proofs::ProgramParser::typed_item))]
 fn typed(alloc: Global, cursor: &mut Cursor<'_>, private: bool) -> Result<Item, Fault>
     ensures reads { Matches result cursor.new
         (typed_item MAX_BINARY_OPERATORS MAX_NESTING private cursor.old) }
@@ -382,7 +382,7 @@ fn typed(alloc: Global, cursor: &mut Cursor<'_>, private: bool) -> Result<Item, 
 }
 
 /// A function, or an object after no word of storage or `__private`.
-#[tactic(auto, unfolding(c_descent::specs::ProgramParser::declared))]
+#[tactic(auto, unfolding(c_descent::proofs::ProgramParser::declared))]
 fn declared(alloc: Global, cursor: &mut Cursor<'_>, private: bool) -> Result<Item, Fault>
     ensures reads { Matches result cursor.new
         (declared MAX_BINARY_OPERATORS MAX_NESTING private cursor.old) }
@@ -396,7 +396,7 @@ fn declared(alloc: Global, cursor: &mut Cursor<'_>, private: bool) -> Result<Ite
 }
 
 /// `__private`, and the function or the object after it.
-#[tactic(auto, unfolding(c_descent::specs::ProgramParser::private_item))]
+#[tactic(auto, unfolding(c_descent::proofs::ProgramParser::private_item))]
 fn private_item(alloc: Global, cursor: &mut Cursor<'_>) -> Result<Item, Fault>
     ensures reads { Matches result cursor.new
         (private_item MAX_BINARY_OPERATORS MAX_NESTING cursor.old) }
@@ -407,7 +407,7 @@ fn private_item(alloc: Global, cursor: &mut Cursor<'_>) -> Result<Item, Fault>
 }
 
 /// An item.
-#[tactic(auto, unfolding(c_descent::specs::ProgramParser::item_inside))]
+#[tactic(auto, unfolding(c_descent::proofs::ProgramParser::item_inside))]
 fn item_inside(alloc: Global, cursor: &mut Cursor<'_>) -> Result<Item, Fault>
     ensures reads { Matches result cursor.new
         (item_inside MAX_BINARY_OPERATORS MAX_NESTING cursor.old) }
@@ -441,7 +441,7 @@ fn items(alloc: Global, cursor: &mut Cursor<'_>) -> Result<Items<Item>, Fault>
 }
 
 /// A whole program.
-#[tactic(auto, unfolding(c_descent::specs::ProgramParser::program))]
+#[tactic(auto, unfolding(c_descent::proofs::ProgramParser::program))]
 pub fn program(alloc: Global, cursor: &mut Cursor<'_>) -> Result<Program, Fault>
     ensures reads { Matches result cursor.new
         (program MAX_BINARY_OPERATORS MAX_NESTING cursor.old) }

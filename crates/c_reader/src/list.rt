@@ -1,6 +1,6 @@
 //! Lists with commas between their parts.
 ghost use Rattle.std.specs.Prelude.{◌≡◌};
-ghost use Rattle.c_descent.specs.ListParser.{Parser, after_comma, separated};
+ghost use Rattle.c_descent.proofs.ListParser.{Parser, after_comma, separated};
 ghost use Rattle.c_parser.specs.CursorAnswers.{Matches, TakesSome};
 
 use c_parser::{Cursor, Fault};
@@ -19,7 +19,7 @@ pub trait Part: Drop {
 }
 
 /// A comma, and the part after it.
-#[tactic(auto, unfolding(c_descent::specs::ListParser::after_comma))]
+#[tactic(auto, unfolding(c_descent::proofs::ListParser::after_comma))]
 fn next<P: Part>(cursor: &mut Cursor<'_>) -> Result<P, Fault>
     ensures reads { Matches result cursor.new (after_comma P.parser cursor.old) }
     ensures takes { TakesSome result cursor.old cursor.new }
@@ -29,7 +29,7 @@ fn next<P: Part>(cursor: &mut Cursor<'_>) -> Result<P, Fault>
 }
 
 /// One or more parts, with commas between them.
-#[tactic(auto, unfolding(c_descent::specs::ListParser::separated))]
+#[tactic(auto, unfolding(c_descent::proofs::ListParser::separated))]
 pub fn separated<P: Part>(alloc: Global, cursor: &mut Cursor<'_>) -> Result<Items<P>, Fault>
     ensures reads { Matches result cursor.new (separated P.parser cursor.old) }
     ensures takes { TakesSome result cursor.old cursor.new }

@@ -2,7 +2,7 @@
 ghost use Rattle.std.specs.Prelude.{◌≡◌, ◌≤◌, length, IfOk, IfErr};
 ghost use Rattle.c_token.specs.PlainText.{kinds_of};
 ghost use Rattle.c_grammar.specs.TokenPrograms.{AreProgram};
-ghost use Rattle.c_descent.specs.DescentLaws.{parsed};
+ghost use Rattle.c_parser.specs.DescentLaws.{parsed};
 ghost use Rattle.c_reader.specs.ReaderAnswers.{AnswersText};
 ghost use Rattle.c_reader.specs.SourceText.{IsRefusedAs};
 

@@ -1,7 +1,7 @@
 -- The loop over the locals and statements of a block.
 use Rattle.std.proofs.Common.{arith, sym, ◌∙◌}
 use Rattle.std.proofs.lemmas.Result.{err_from_is_err_and}
-use Rattle.c_descent.specs.StatementParser.{entries}
+use Rattle.c_descent.proofs.StatementParser.{entries}
 use Rattle.c_parser.proofs.Loops.{all-grows, grows-step, grows-end, grows-fault}
 use Rattle.c_parser.proofs.block.+statements.Goals as goal
 

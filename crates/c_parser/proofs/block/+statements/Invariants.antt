@@ -1,7 +1,7 @@
 -- The levels that are left bound the depth: within one level each function calls those of lower numbers.
 use Rattle.std.proofs.Common.{◌≤◌, ◌+◌, ◌*◌, length}
 use Rattle.aegis_num.specs.declared.limits.TheConstants.{MAX_BINARY_OPERATORS}
-use Rattle.c_descent.specs.StatementParser.{block_goes_on, entry, entries, statement}
+use Rattle.c_descent.proofs.StatementParser.{block_goes_on, entry, entries, statement}
 use Rattle.c_parser.proofs.Loops.{Grows}
 use Rattle.c_parser.proofs.block.+statements.Given as goal
 

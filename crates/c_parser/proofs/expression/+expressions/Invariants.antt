@@ -2,8 +2,8 @@
 use Rattle.std.proofs.Common.{◌≤◌, ◌+◌, ◌*◌, ◌<◌, length}
 use Rattle.aegis_num.specs.declared.limits.TheConstants.{MAX_BINARY_OPERATORS}
 use Rattle.c_token.specs.declared.signs.Sign.TheVariants.{Comma}
-use Rattle.c_descent.specs.ListParser.{is_at_sign, separated, after_comma}
-use Rattle.c_descent.specs.ExpressionParser.{chained, binary_expression, unary_expression, expression_at}
+use Rattle.c_descent.proofs.ListParser.{is_at_sign, separated, after_comma}
+use Rattle.c_descent.proofs.ExpressionParser.{chained, binary_expression, unary_expression, expression_at}
 use Rattle.c_parser.proofs.Loops.{Grows, Chains}
 use Rattle.c_parser.proofs.expression.+expressions.Given as goal
 

@@ -1,7 +1,7 @@
 -- The loop over the list.
 use Rattle.std.proofs.Common.{arith, sym, ◌∙◌}
 use Rattle.std.proofs.lemmas.Result.{err_from_is_err_and}
-use Rattle.c_descent.specs.ProgramParser.{items}
+use Rattle.c_descent.proofs.ProgramParser.{items}
 use Rattle.c_parser.proofs.Loops.{none_left, all-grows, grows-step, grows-end, grows-fault}
 use Rattle.c_reader.proofs.item.items.Goals as goal
 

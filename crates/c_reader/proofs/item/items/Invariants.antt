@@ -1,8 +1,8 @@
 -- the list so far, and no more left than there was
 use Rattle.std.proofs.Common.{◌≤◌, length}
 use Rattle.aegis_num.specs.declared.limits.TheConstants.{MAX_BINARY_OPERATORS, MAX_NESTING}
-use Rattle.c_descent.specs.ProgramParser.{item_inside, items}
-use Rattle.c_descent.specs.ListParser.{is_left}
+use Rattle.c_descent.proofs.ProgramParser.{item_inside, items}
+use Rattle.c_descent.proofs.ListParser.{is_left}
 use Rattle.c_parser.proofs.Loops.{Grows}
 use Rattle.c_reader.proofs.item.items.Given as goal
 

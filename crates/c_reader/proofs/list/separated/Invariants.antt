@@ -1,7 +1,7 @@
 -- the list so far, and no more left than there was
 use Rattle.std.proofs.Common.{◌<◌, length}
 use Rattle.c_token.specs.declared.signs.Sign.TheVariants.{Comma}
-use Rattle.c_descent.specs.ListParser.{is_at_sign, separated, after_comma}
+use Rattle.c_descent.proofs.ListParser.{is_at_sign, separated, after_comma}
 use Rattle.c_parser.proofs.Loops.{Grows}
 use Rattle.c_reader.proofs.list.separated.Given as goal
 

@@ -6,7 +6,7 @@ use Rattle.c_token.specs.declared.kinds.Token.{Token}
 use Rattle.c_token.specs.PlainText.{kinds_of}
 use Rattle.c_grammar.specs.declared.item.Program.{Program}
 use Rattle.c_grammar.specs.TokenPrograms.{AreProgram}
-use Rattle.c_descent.specs.DescentLaws.{parsed}
+use Rattle.c_parser.specs.DescentLaws.{parsed}
 use Rattle.c_reader.specs.declared.error.SyntaxError.{SyntaxError}
 use Rattle.c_reader.specs.ReaderAnswers.{AnswersText}
 use Rattle.c_reader.specs.SourceText.{IsRefusedAs}

@@ -5,8 +5,8 @@ use Rattle.c_token.specs.declared.kinds.Kind.{Kind}
 use Rattle.c_grammar.specs.declared.item.Program.{Program}
 use Rattle.c_grammar.specs.BoundedTokens.{Tok, numbered}
 use Rattle.c_grammar.specs.TokenPrograms.{AreProgram, IsExpectedAt, IsDeepAt, IsShallowBefore}
-use Rattle.c_descent.specs.ListParser.{expected, deep, ParseOutcome, done, stop, place_or}
-use Rattle.c_descent.specs.ProgramParser.{program}
+use Rattle.c_descent.proofs.ListParser.{expected, deep, ParseOutcome, done, stop, place_or}
+use Rattle.c_descent.proofs.ProgramParser.{program}
 
 -- what the parser makes of tokens of these kinds, numbered from 0
 abbrev pub parsed : List Kind → ParseOutcome Program

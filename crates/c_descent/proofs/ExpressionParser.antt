@@ -14,7 +14,7 @@ use Rattle.c_descent.specs.declared.parts.Bracketed.{Bracketed}
 use Rattle.c_descent.specs.declared.parts.Operand.{Operand}
 use Rattle.c_descent.specs.declared.parts.Operand.TheVariants as operand
 use Rattle.c_grammar.specs.BoundedTokens.{Tok}
-use Rattle.c_descent.specs.ListParser.{deep, exhausted, ParseOutcome, done, stop, Parser, follow, ◌>>=◌, gives, refuses, first_kind, is_at_sign, sign_token, word_token, name_token, number_token, separated}
+use Rattle.c_descent.proofs.ListParser.{deep, exhausted, ParseOutcome, done, stop, Parser, follow, ◌>>=◌, gives, refuses, first_kind, is_at_sign, sign_token, word_token, name_token, number_token, separated}
 
 -- the sign, where it has this rank
 abbrev pub operator_of : ℕ → Option Kind → Option Sign

@@ -16,8 +16,8 @@ use Rattle.c_descent.specs.declared.parts.Plain.TheVariants as plain
 use Rattle.c_descent.specs.declared.parts.LoopHead.{LoopHead}
 use Rattle.c_descent.specs.declared.parts.Braces.{Braces}
 use Rattle.c_grammar.specs.BoundedTokens.{Tok}
-use Rattle.c_descent.specs.ListParser.{expected, deep, done, stop, Parser, follow, ◌>>=◌, gives, refuses, first_kind, is_at_sign, is_at_word, sign_token, word_token, name_token, all, level}
-use Rattle.c_descent.specs.ExpressionParser.{expression_at, subscript, arguments, levels_inside}
+use Rattle.c_descent.proofs.ListParser.{expected, deep, done, stop, Parser, follow, ◌>>=◌, gives, refuses, first_kind, is_at_sign, is_at_word, sign_token, word_token, name_token, all, level}
+use Rattle.c_descent.proofs.ExpressionParser.{expression_at, subscript, arguments, levels_inside}
 
 -- what a token begins in a block
 abbrev pub statement_start : Option Kind → Start

@@ -1,5 +1,5 @@
 //! The laws of the parser on lists.
-ghost use Rattle.c_descent.specs.DescentLaws.{ReadsPrograms, StopsAtExpected, StopsAtDeep};
+ghost use Rattle.c_parser.specs.DescentLaws.{ReadsPrograms, StopsAtExpected, StopsAtDeep};
 
 /// The parser reads tokens to their end as a program where they are that program, and only there.
 pub fn reads_programs()

@@ -20,8 +20,8 @@ use Rattle.c_descent.specs.declared.parts.Heading.{Heading}
 use Rattle.c_descent.specs.declared.parts.Heading.TheVariants as heading
 use Rattle.c_descent.specs.declared.parts.Given.{Given}
 use Rattle.c_grammar.specs.BoundedTokens.{Tok}
-use Rattle.c_descent.specs.ListParser.{done, Parser, ◌>>=◌, gives, refuses, first_kind, is_left, is_at_sign, is_at_word, sign_token, word_token, name_token, number_token, all, separated}
-use Rattle.c_descent.specs.StatementParser.{type_name, braced, statement}
+use Rattle.c_descent.proofs.ListParser.{done, Parser, ◌>>=◌, gives, refuses, first_kind, is_left, is_at_sign, is_at_word, sign_token, word_token, name_token, number_token, all, separated}
+use Rattle.c_descent.proofs.StatementParser.{type_name, braced, statement}
 
 -- what a token begins at the top of a program
 abbrev pub heading_of : Option Kind → Heading

@@ -1,5 +1,0 @@
-pub mod ListParser
-pub mod ExpressionParser
-pub mod StatementParser
-pub mod ProgramParser
-pub mod DescentLaws
