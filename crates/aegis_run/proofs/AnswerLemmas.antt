@@ -4,12 +4,14 @@ use Rattle.aegis_edge.specs.Folder.{Files, content_of}
 use Rattle.c_grammar.specs.declared.item.Program.{Program}
 use Rattle.c_resolver.specs.Resolving.{plain_program}
 use Rattle.c_semantics.specs.Meaning.{Meaning, mean_alone}
-use Rattle.aegis_run.specs.declared.ends.File.{File}
-use Rattle.aegis_run.specs.declared.ends.File.TheVariants.{Source, Script, Input}
+use Rattle.aegis_words.specs.declared.file.File.{File}
+use Rattle.aegis_words.specs.declared.file.File.TheVariants.{Source, Script, Input}
 use Rattle.aegis_run.specs.declared.ends.TopEnd.{TopEnd}
 use Rattle.aegis_run.specs.declared.ends.TopEnd.TheVariants.{Run, Mean, Usage, TooLong, Token, Syntax, Typing, NotYet, NoFile, ReadFault, WriteFault, OutOfMemory}
-use Rattle.aegis_run.specs.Words.{RunNames, MeanNames, Command}
-use Rattle.aegis_run.specs.Words as asks
+use Rattle.aegis_words.specs.RunWordRow.{RunNames}
+use Rattle.aegis_words.specs.MeanWordRow.{MeanNames}
+use Rattle.aegis_words.specs.CommandTable.{Command}
+use Rattle.aegis_words.specs.CommandTable as asks
 use Rattle.aegis_run.specs.Literals.{literals_of}
 use Rattle.c_grammar.specs.TokenPrograms.{HasProgram}
 use Rattle.aegis_run.specs.Answer.{name_for, turns_for, Sends, IsRetired, IsRead, IsAccepted, IsAbsent, IsOverlong, Lacks, Exceeds, IsReached, PassesSource, PassesScript, IsRefused, IsNotYet, IsScriptNotYet, MeansFrom, RunMeans, MeanMeans, CauseOf, AreTold, SourceFault, IsOrFails, StartsRun, TellsMeaning}

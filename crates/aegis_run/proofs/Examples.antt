@@ -1,90 +1,28 @@
 -- The definitions on worked examples.
-use Rattle.std.proofs.Common.{◌≡◌, ℕ, true, false, List, [], ◌∷◌, ◌++◌, replicate, None, Some, refl, ap, arith}
+use Rattle.std.proofs.Common.{◌≡◌, ℕ, true, false, List, [], ◌∷◌, ◌++◌, replicate, refl, ap, arith}
 use Rattle.std.specs.Prelude.{codes}
 use Rattle.std.proofs.lemmas.Fmt.{decimal_digit}
-use Rattle.aegis_run.specs.declared.ends.File.TheVariants.{Source, Script, Input}
+use Rattle.aegis_words.specs.declared.file.File.TheVariants.{Source, Script}
 use Rattle.aegis_run.specs.declared.ends.End.TheVariants.{Ended}
 use Rattle.c_evaluator.specs.declared.mean_end.MeanEnd.TheVariants as mean
 use Rattle.aegis_run.specs.declared.ends.TopEnd.TheVariants.{Run, Mean, Usage, Token, Syntax, NotYet}
 use Rattle.c_token.specs.declared.kinds.TokenError.TheVariants as token
 use Rattle.c_reader.specs.declared.error.SyntaxError.TheVariants as syntax
-use Rattle.aegis_run.specs.Answer.{limit_for, turns_for}
+use Rattle.aegis_run.specs.Answer.{turns_for}
 use Rattle.aegis_run.specs.Code.{code_of}
 use Rattle.aegis_run.specs.Literals.{released}
 use Rattle.aegis_run.specs.Report.{line_of, status_of}
-use Rattle.aegis_run.specs.Words.{RunNames, is_bound, mean_row, row_of, run_row}
-use Rattle.aegis_run.specs.Words as asks
+use Rattle.aegis_words.specs.RunWordRow.{RunNames}
+use Rattle.aegis_words.specs.CommandTable as asks
 
--- the words of a run with this fuel and this key
-run_with : List ℕ → List ℕ → List (List ℕ)
-run_with fuel key = codes "run" ∷ codes "hi.c" ∷ codes "s" ∷ codes "i" ∷ fuel ∷ key ∷ codes "0000000000000001" ∷ []
-
--- its three files, and its fuel
+-- a run of three files, with this fuel
 files : ℕ → RunNames
-files fuel = record { source = codes "hi.c"; script = codes "s"; input = codes "i"; fuel = fuel }
-
-ordinary : run_row (run_with (codes "8000000") (codes "000102030405060708090a0b0c0d0e0f")) ≡ Some (files 8000000)
-unfolding run_with files
-ordinary = refl
-
-capital : run_row (run_with (codes "1") (codes "000102030405060708090A0B0C0D0E0F")) ≡ Some (files 1)
-unfolding run_with files
-capital = refl
-
-short_key : run_row (run_with (codes "1") (codes "000102030405060708090a0b0c0d0e0")) ≡ None
-unfolding run_with
-short_key = refl
-
-no_key : run_row (run_with (codes "1") (codes "000102030405060708090a0b0c0d0e0g")) ≡ None
-unfolding run_with
-no_key = refl
-
-no_words : run_row [] ≡ None
-no_words = refl
-
--- the words of a `mean` with these turns
-mean_with : List ℕ → List (List ℕ)
-mean_with turns = codes "mean" ∷ codes "hi.c" ∷ codes "i" ∷ turns ∷ []
-
-meant : row_of (run_row (mean_with (codes "33554432"))) (mean_row (mean_with (codes "33554432")))
-    ≡ Some (asks.Mean (record { source = codes "hi.c"; input = codes "i"; turns = 33554432 }))
-unfolding mean_with
-meant = refl
-
-no_turns : mean_row (mean_with (codes "0")) ≡ Some (record { source = codes "hi.c"; input = codes "i"; turns = 0 })
-unfolding mean_with
-no_turns = refl
-
-too_many_turns : mean_row (mean_with (codes "33554433")) ≡ None
-unfolding mean_with
-too_many_turns = refl
-
-mean_is_no_run : run_row (mean_with (codes "0")) ≡ None
-unfolding mean_with
-mean_is_no_run = refl
+files fuel = record { source = codes "hi.c"; script = codes "s"; input = codes "i"; fuel = fuel; key = []; nonce = [] }
 
 -- a run with no fuel can begin 64 turns before its first instruction
 turns_of_a_run : turns_for (asks.Run (files 0)) ≡ 64
 unfolding files
 turns_of_a_run = refl
-
-greatest_fuel : is_bound (codes "33554432") ≡ true
-greatest_fuel = refl
-
-zeros_before : is_bound (codes "0000000001") ≡ true
-zeros_before = refl
-
-too_much_fuel : is_bound (codes "33554433") ≡ false
-too_much_fuel = refl
-
-too_many_digits : is_bound (codes "00000000001") ≡ false
-too_many_digits = refl
-
-signed_fuel : is_bound (codes "+1") ≡ false
-signed_fuel = refl
-
-no_fuel : is_bound [] ≡ false
-no_fuel = refl
 
 low_byte : released (328 ∷ []) ≡ 72 ∷ []
 low_byte = refl
@@ -124,6 +62,3 @@ line_of_script = refl
 
 unwritten : status_of Usage false ≡ 5
 unwritten = refl
-
-limits : (limit_for Source ≡ 262144) × (limit_for Script ≡ 1048576) × (limit_for Input ≡ 65536)
-limits = (refl, refl, refl)

@@ -8,4 +8,3 @@ mod MeaningLemmas
 mod OpeningLemmas
 mod SourceLemmas
 mod TypingLemmas
-mod WordLemmas

@@ -1,6 +1,5 @@
 -- Promise: why the program answers what it answers: the words, and what a folder tells of the files that they name.
 use Rattle.std.specs.Prelude.{◌≡◌, ◌≢◌, ◌⊎◌, ℕ, ◌+◌, ◌*◌, ◌<◌, ◌≤◌, List, [], length, Option, None, Some, IfSome}
-use Rattle.aegis_num.specs.declared.limits.TheConstants.{MAX_SOURCE_BYTES, MAX_SCRIPT_BYTES, MAX_INPUT_BYTES}
 use Rattle.aegis_edge.specs.Faults.{Rose}
 use Rattle.aegis_edge.specs.Folder.{Files, HoldsWhole, content_of}
 use Rattle.aegis_edge.specs.Sink.{Appends, AppendsFront}
@@ -14,16 +13,18 @@ use Rattle.c_token.specs.declared.kinds.TokenError.TheVariants as token
 use Rattle.c_types.specs.declared.error.TypeError.TheVariants as type
 use Rattle.c_types.specs.Checked.{IsTyped, IsRefusedByTypes}
 use Rattle.c_types.specs.declared.error.TypeError.{TypeError}
-use Rattle.aegis_run.specs.declared.ends.File.{File}
-use Rattle.aegis_run.specs.declared.ends.File.TheVariants.{Source, Script, Input}
+use Rattle.aegis_words.specs.declared.file.File.{File}
+use Rattle.aegis_words.specs.declared.file.File.TheVariants.{Source, Script, Input}
 use Rattle.aegis_run.specs.declared.ends.End.TheVariants as run
 use Rattle.aegis_run.specs.declared.ends.TopEnd.{TopEnd}
 use Rattle.aegis_run.specs.declared.ends.TopEnd.TheVariants.{Run, Mean, Usage, TooLong, Token, Syntax, Typing, NotYet, NoFile, ReadFault, WriteFault, OutOfMemory}
 use Rattle.aegis_run.specs.Literals.{literals_of}
 use Rattle.c_grammar.specs.TokenPrograms.{HasProgram}
 use Rattle.c_reader.specs.SourceText.{HasTokenFault, HasSyntaxFault}
-use Rattle.aegis_run.specs.Words.{RunNames, Command}
-use Rattle.aegis_run.specs.Words as asks
+use Rattle.aegis_words.specs.RunWordRow.{RunNames}
+use Rattle.aegis_words.specs.FileSteps.{limit_for}
+use Rattle.aegis_words.specs.CommandTable.{Command}
+use Rattle.aegis_words.specs.CommandTable as asks
 
 -- the name that the words give for a file; `mean` names no script
 abbrev pub name_for : Command → File → List ℕ
@@ -38,12 +39,6 @@ name_for (asks.Mean names) Input = names.input
 abbrev pub turns_for : Command → ℕ
 turns_for (asks.Run names) = 64 * (names.fuel + 1)
 turns_for (asks.Mean names) = names.turns
-
--- the most bytes that a file may hold
-abbrev pub limit_for : File → ℕ
-limit_for Source = MAX_SOURCE_BYTES
-limit_for Script = MAX_SCRIPT_BYTES
-limit_for Input = MAX_INPUT_BYTES
 
 -- a file is there with this text, where the folder tells its files, and is not too long
 pub record IsRead (files : Option Files) (name : List ℕ) (file : File) (text : List ℕ) : Type 0 where

@@ -3,4 +3,3 @@ pub mod Code
 pub mod Literals
 pub mod Opening
 pub mod Report
-pub mod Words

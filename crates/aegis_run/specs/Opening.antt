@@ -1,19 +1,14 @@
--- Device: why one file is not read, why a text is refused, and what the code keeps of the words.
+-- Device: why one file is not read, why a text is refused, and what an answer put into a sink.
 use Rattle.std.specs.Prelude.{◌≡◌, ℕ, List, Option, None}
 use Rattle.aegis_edge.specs.Faults.{Rose}
 use Rattle.aegis_edge.specs.Folder.{Files}
-use Rattle.aegis_run.specs.declared.ends.File.{File}
+use Rattle.aegis_words.specs.declared.file.File.{File}
 use Rattle.aegis_run.specs.declared.ends.TopEnd.{TopEnd}
 use Rattle.aegis_run.specs.declared.ends.TopEnd.TheVariants.{Run, Mean, TooLong, NotYet, NoFile, ReadFault, WriteFault, OutOfMemory}
-use Rattle.aegis_run.specs.declared.ends.File.TheVariants.{Source}
+use Rattle.aegis_words.specs.declared.file.File.TheVariants.{Source}
 use Rattle.aegis_run.specs.Literals.{literals_of}
 use Rattle.c_grammar.specs.declared.item.Program.{Program}
-use Rattle.aegis_run.specs.declared.words.RunWords.{RunWords}
-use Rattle.aegis_run.specs.declared.words.MeanWords.{MeanWords}
-use Rattle.aegis_run.specs.declared.words.Command.{Command as CommandWords}
-use Rattle.aegis_run.specs.declared.words.Command.TheVariants as words
-use Rattle.aegis_run.specs.Words.{RunNames, MeanNames, Command}
-use Rattle.aegis_run.specs.Words as asks
+use Rattle.aegis_words.specs.CommandTable.{Command}
 use Rattle.aegis_run.specs.Answer.{IsAbsent, IsOverlong, RunMeans, SourceFault}
 use Rattle.aegis_run.specs.declared.ends.End.TheVariants as run
 use Rattle.aegis_edge.specs.Sink.{Appends, AppendsFront}
@@ -63,16 +58,3 @@ SendsMeaning (Mean end) old new meaning = (end_of end ≡ meaning.end) × Append
 SendsMeaning WriteFault old new meaning = AppendsFront old new meaning.traffic.bytes
 SendsMeaning OutOfMemory old new meaning = new ≡ old
 SendsMeaning end old new meaning = ⊥
-
--- the names among the words of a run
-abbrev pub names_of : RunWords → RunNames
-names_of words = record { source = words.source.now; script = words.script.now; input = words.input.now; fuel = words.fuel }
-
--- the names among the words of a `mean`
-abbrev pub mean_names_of : MeanWords → MeanNames
-mean_names_of words = record { source = words.source.now; input = words.input.now; turns = words.turns }
-
--- what the code keeps of the words, as the command that they are
-abbrev pub command_of : CommandWords → Command
-command_of (words.Run names) = asks.Run (names_of names)
-command_of (words.Mean names) = asks.Mean (mean_names_of names)

@@ -1,7 +1,7 @@
 -- Promise: the exit status of an answer, and its line on the notes.
 use Rattle.std.specs.Prelude.{ℕ, Bool, true, false, List, ◌++◌, codes, decimal}
-use Rattle.aegis_run.specs.declared.ends.File.{File}
-use Rattle.aegis_run.specs.declared.ends.File.TheVariants.{Source, Script, Input}
+use Rattle.aegis_words.specs.declared.file.File.{File}
+use Rattle.aegis_words.specs.declared.file.File.TheVariants.{Source, Script, Input}
 use Rattle.aegis_run.specs.declared.ends.End.TheVariants as run
 use Rattle.aegis_run.specs.declared.ends.TopEnd.{TopEnd}
 use Rattle.aegis_run.specs.declared.ends.TopEnd.TheVariants.{Run, Mean, Usage, TooLong, Token, Syntax, Typing, NotYet, NoFile, ReadFault, WriteFault, OutOfMemory}

@@ -4,21 +4,22 @@ ghost use Rattle.std.specs.List.{AllByRecursion};
 ghost use Rattle.aegis_edge.specs.Faults.{Rose};
 ghost use Rattle.c_resolver.specs.Resolving.{plain_program};
 ghost use Rattle.c_semantics.specs.Meaning.{mean_alone};
-ghost use Rattle.aegis_run.specs.Words.{command_in};
-ghost use Rattle.aegis_run.specs.Words as asks;
+ghost use Rattle.aegis_words.specs.CommandTable.{command_in};
+ghost use Rattle.aegis_words.specs.CommandTable as asks;
+ghost use Rattle.aegis_words.specs.KeptWords.{mean_names_of, names_of};
 ghost use Rattle.aegis_run.specs.Answer.{Cause, CauseOf, AreTold, Sends, IsRetired};
 ghost use Rattle.aegis_run.specs.Literals.{released};
-ghost use Rattle.aegis_run.specs.Opening.{IsWriteFault, SendsMeaning, Writes, names_of, mean_names_of};
+ghost use Rattle.aegis_run.specs.Opening.{IsWriteFault, SendsMeaning, Writes};
 ghost use Rattle.aegis_run.specs.Code.{Delivers, SendsOnly};
 
 use crate::compiler::compile;
 use crate::ends::{End, TopEnd};
 use crate::files::{Accepted, Prepared, prepare_mean, prepare_run};
 use crate::machine::{self, Ran};
-use crate::words::{Command, MeanWords, RunWords, read_command};
 use aegis_edge::{Folder, Sink};
 use aegis_num::OutOfMemory;
 use aegis_num::limits::MAX_SOURCE_BYTES;
+use aegis_words::{Command, MeanWords, RunWords, read_command};
 use c_meaning::mean;
 use std::alloc::Global;
 

@@ -2,21 +2,11 @@
 ghost use Rattle.std.specs.Prelude.{◌≡◌};
 ghost use Rattle.aegis_run.specs.Report.{status_when_noted, status_of as status_of_answer};
 
+use aegis_words::File;
 use c_meaning::MeanEnd;
 use c_reader::SyntaxError;
 use c_token::TokenError;
 use c_types::TypeError;
-
-/// A file that the words on the command line name.
-#[derive(Clone, Copy, Debug, PartialEq, Eq)]
-pub enum File {
-    /// The source.
-    Source,
-    /// The script of off-chip changes.
-    Script,
-    /// The input of the secure program.
-    Input,
-}
 
 /// How a run ended.
 #[derive(Clone, Copy, Debug, PartialEq, Eq)]

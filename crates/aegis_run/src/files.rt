@@ -2,20 +2,21 @@
 ghost use Rattle.std.specs.Prelude.{◌≡◌, ◌≢◌, ◌≤◌, ◌*◌, ℕ, List, Some, length, IfOk, IfErr, OnOk};
 ghost use Rattle.c_grammar.specs.TokenPrograms.{AreProgram, HasProgram};
 ghost use Rattle.c_types.specs.Checked.{IsReadProgram, IsTyped};
-ghost use Rattle.aegis_run.specs.declared.ends.File.TheVariants as file;
-ghost use Rattle.aegis_run.specs.Answer.{IsRead, IsAccepted, AreTold, limit_for, CauseOf};
+ghost use Rattle.aegis_words.specs.declared.file.File.TheVariants as file;
+ghost use Rattle.aegis_run.specs.Answer.{IsRead, IsAccepted, AreTold, CauseOf};
 ghost use Rattle.c_reader.specs.SourceText.{HasTokens};
 ghost use Rattle.c_token.specs.PlainText.{kinds_of};
 ghost use Rattle.aegis_run.specs.Literals.{literals_of as literals_are, released};
-ghost use Rattle.aegis_run.specs.Opening.{AcceptCause, OpenCause, NotRunCause, IsReady, Writes, names_of, mean_names_of};
-ghost use Rattle.aegis_run.specs.Words as asks;
+ghost use Rattle.aegis_run.specs.Opening.{AcceptCause, OpenCause, NotRunCause, IsReady, Writes};
+ghost use Rattle.aegis_words.specs.CommandTable as asks;
+ghost use Rattle.aegis_words.specs.KeptWords.{mean_names_of, names_of};
 
-use crate::ends::{File, TopEnd};
+use crate::ends::TopEnd;
 use crate::literals::literals_of;
-use crate::words::{MeanWords, RunWords};
 use aegis_edge::{Folder, FolderError};
 use aegis_num::OutOfMemory;
-use aegis_num::limits::{MAX_INPUT_BYTES, MAX_SCRIPT_BYTES, MAX_SOURCE_BYTES};
+use aegis_num::limits::MAX_SOURCE_BYTES;
+use aegis_words::{File, MeanWords, RunWords, limit};
 use c_grammar::Program;
 use c_reader::{SyntaxError, read_program};
 use c_token::{Token, TokenError, tokens};
@@ -36,7 +37,7 @@ pub struct Accepted {
     pub input: Vec<u8>,
 }
 
-/// AreProgram the source, the script and the input, in this order, up to the first that stops the run.
+/// Reads the source, the script and the input, in this order, up to the first that stops the run.
 pub fn prepare_run<F: Folder>(
     alloc: Global,
     folder: &mut F,
@@ -70,7 +71,7 @@ pub fn prepare_run<F: Folder>(
     }
 }
 
-/// AreProgram the source and the input, in this order, up to the first that leaves no meaning.
+/// Reads the source and the input, in this order, up to the first that leaves no meaning.
 pub fn prepare_mean<F: Folder>(
     alloc: Global,
     folder: &mut F,
@@ -186,16 +187,5 @@ fn open<F: Folder>(alloc: Global, folder: &mut F, name: &str, file: File) -> Res
         Err(FolderError::TooLong) => Err(TopEnd::TooLong(file)),
         Err(FolderError::Failed) => Err(TopEnd::ReadFault),
         Err(FolderError::OutOfMemory) => Err(TopEnd::OutOfMemory),
-    }
-}
-
-/// The most bytes that a file may hold.
-fn limit(file: File) -> u64
-    ensures { result ≡ limit_for file }
-{
-    match file {
-        File::Source => MAX_SOURCE_BYTES,
-        File::Script => MAX_SCRIPT_BYTES,
-        File::Input => MAX_INPUT_BYTES,
     }
 }

@@ -9,7 +9,6 @@ mod literals;
 mod machine;
 mod report;
 mod top;
-mod words;
 
 use aegis_edge::{HostFolder, HostSink};
 use ends::TopEnd;
@@ -24,7 +23,7 @@ fn main(rt: HostRuntime) -> ExitCode {
     let mut folder = HostFolder::new(&rt);
     let mut out = HostSink::new(rt.stdout());
     let mut notes = HostSink::new(rt.stderr());
-    let finish = match words_behind(&rt) {
+    let finish = match words_after_name(&rt) {
         Ok(words) => aegis(
             rt.alloc(),
             words.as_slice(),
@@ -39,7 +38,7 @@ fn main(rt: HostRuntime) -> ExitCode {
 
 /// The words after the program's name, and none where one of them is not UTF-8: no command has
 /// such a word.
-fn words_behind(rt: &(impl Env + AllocGlobal)) -> Result<Vec<String>, AllocError> {
+fn words_after_name(rt: &(impl Env + AllocGlobal)) -> Result<Vec<String>, AllocError> {
     match env::args(rt) {
         Ok(all) => all.skip(1).collect(rt.alloc()),
         Err(error) if error.kind() == ErrorKind::OutOfMemory => Err(AllocError),

@@ -2,7 +2,8 @@
 ghost use Rattle.std.specs.Prelude.{◌≡◌, ◌+◌, ◌≤◌, ◌++◌, length, decimal};
 ghost use Rattle.aegis_run.specs.Report.{line_of, meaning_line, name_of, place_line, syntax_line, token_line, type_line};
 
-use crate::ends::{End, File, TopEnd};
+use crate::ends::{End, TopEnd};
+use aegis_words::File;
 use arrayvec::ArrayString;
 use c_meaning::MeanEnd;
 use c_reader::SyntaxError;

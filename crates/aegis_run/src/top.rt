@@ -5,15 +5,16 @@ ghost use Rattle.aegis_edge.specs.Sink.{Appends, AppendsFront};
 ghost use Rattle.c_evaluator.specs.MachineStates.{end_of};
 ghost use Rattle.c_semantics.specs.Meaning.{Meaning};
 ghost use Rattle.c_semantics.specs.States.{Ended};
-ghost use Rattle.aegis_run.specs.Words.{command_in};
+ghost use Rattle.aegis_words.specs.CommandTable.{command_in};
 ghost use Rattle.aegis_run.specs.Answer.{Lacks, Exceeds, IsRefused, IsNotYet, IsScriptNotYet, RunMeans, MeanMeans, AreTold, IsOrFails, StartsRun, TellsMeaning, IsRetired};
 ghost use Rattle.aegis_run.specs.Opening.{IsWriteFault, Writes};
 ghost use Rattle.aegis_run.specs.Report.{line_of, status_of as status_of_answer};
 
 use crate::answer::answer_words;
-use crate::ends::{End, File, Finish, TopEnd, status_of};
+use crate::ends::{End, Finish, TopEnd, status_of};
 use crate::report::report_line;
 use aegis_edge::{Folder, Sink};
+use aegis_words::File;
 use c_meaning::MeanEnd;
 use c_reader::SyntaxError;
 use c_token::TokenError;

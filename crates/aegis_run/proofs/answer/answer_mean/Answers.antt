@@ -2,8 +2,8 @@ use Rattle.std.proofs.Common.{refl}
 use Rattle.c_resolver.specs.Resolving.{plain_program}
 use Rattle.c_semantics.specs.Meaning.{Meaning, mean_alone}
 use Rattle.aegis_run.specs.Answer.{MeansFrom}
-use Rattle.aegis_run.specs.Words as asks
-use Rattle.aegis_run.specs.Opening.{mean_names_of}
+use Rattle.aegis_words.specs.CommandTable as asks
+use Rattle.aegis_words.specs.KeptWords.{mean_names_of}
 use Rattle.aegis_run.proofs.OpeningLemmas.{meaning_cause}
 use Rattle.aegis_run.proofs.answer.answer_mean.Goals as goal
 

@@ -4,9 +4,9 @@ use Rattle.std.proofs.lemmas.List.{nil_from_length}
 use Rattle.std.proofs.lemmas.Grind.{common_steps}
 use Rattle.aegis_edge.specs.Folder.{Files}
 use Rattle.c_grammar.specs.TokenPrograms.{HasProgram}
-use Rattle.aegis_run.specs.declared.ends.File.TheVariants.{Source, Script, Input}
+use Rattle.aegis_words.specs.declared.file.File.TheVariants.{Source, Script, Input}
 use Rattle.aegis_run.specs.Answer.{IsRead}
-use Rattle.aegis_run.specs.Opening.{names_of}
+use Rattle.aegis_words.specs.KeptWords.{names_of}
 use Rattle.aegis_run.proofs.OpeningLemmas.{ready}
 use Rattle.aegis_run.proofs.files.prepare_run.Goals as goal
 

@@ -1,10 +1,10 @@
 use Rattle.std.proofs.Common.{ℕ, Option, None, Some, IfSome, sym, subst}
 use Rattle.aegis_edge.specs.Folder.{Files}
 use Rattle.c_semantics.specs.Meaning.{Meaning}
-use Rattle.aegis_run.specs.declared.ends.File.TheVariants.{Source, Script}
+use Rattle.aegis_words.specs.declared.file.File.TheVariants.{Source, Script}
 use Rattle.aegis_run.specs.declared.ends.TopEnd.{TopEnd}
 use Rattle.aegis_run.specs.declared.ends.TopEnd.TheVariants.{Token, Syntax, Typing, NotYet}
-use Rattle.aegis_run.specs.Words.{Command, command_in}
+use Rattle.aegis_words.specs.CommandTable.{Command, command_in}
 use Rattle.aegis_run.specs.Answer.{AreTold, IsRefused, IsNotYet, IsScriptNotYet, RunMeans, MeanMeans, Cause, Sends, IsOrFails, StartsRun, TellsMeaning}
 use Rattle.aegis_run.proofs.AnswerLemmas.{refuses_source, not_yet, script_not_yet, starts_run, tells_meaning, sends_nothing}
 use Rattle.aegis_run.proofs.top.aegis.Goals as goal

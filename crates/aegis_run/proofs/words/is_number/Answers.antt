@@ -1,6 +1,0 @@
-use Rattle.std.proofs.Common.{arith}
-use Rattle.std.proofs.lemmas.Bool.Decides.{nat_tests}
-use Rattle.aegis_run.proofs.words.is_number.Goals as goal
-
-pub returns-then-digits-le10 : goal.returns-then-digits-le10
-returns-then-digits-le10 c = grind (arith, nat_tests)

@@ -1,6 +1,0 @@
-use Rattle.std.proofs.Common.{is_ok, ap}
-use Rattle.aegis_run.proofs.WordLemmas.{number_parses}
-use Rattle.aegis_run.proofs.words.number_of.Goals as goal
-
-pub unwrap-requires : goal.unwrap-requires
-unwrap-requires c = ap is_ok (number_parses c.args.word.now c.parse.result c.parse.ensures.value.0 c.requires)
