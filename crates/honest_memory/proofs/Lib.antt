@@ -1,0 +1,4 @@
+mod FedRuns
+mod HonestProofs
+mod HonestRuns
+mod WordMemory

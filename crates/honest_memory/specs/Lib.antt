@@ -1,0 +1,2 @@
+pub mod HonestWords
+pub mod WordPrograms
