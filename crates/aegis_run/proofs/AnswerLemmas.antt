@@ -1,6 +1,8 @@
 -- What answers say of sinks and of files.
 use Rattle.std.proofs.Common.{◌≡◌, ◌≢◌, inl, inr, ℕ, List, [], length, unwrap_or, Option, None, Some, refl, sym, ◌∙◌, ap, subst, arith}
 use Rattle.aegis_edge.specs.Folder.{Files, content_of}
+use Rattle.aegis_edge.specs.declared.folder.FolderError.{FolderError}
+use Rattle.aegis_edge.specs.declared.folder.FolderError.TheVariants as folder
 use Rattle.c_grammar.specs.declared.item.Program.{Program}
 use Rattle.c_resolver.specs.Resolving.{plain_program}
 use Rattle.c_semantics.specs.Meaning.{Meaning, mean_alone}
@@ -14,7 +16,7 @@ use Rattle.aegis_words.specs.CommandTable.{Command}
 use Rattle.aegis_words.specs.CommandTable as asks
 use Rattle.aegis_run.specs.Literals.{literals_of}
 use Rattle.c_grammar.specs.TokenPrograms.{HasProgram}
-use Rattle.aegis_run.specs.Answer.{name_for, turns_for, Sends, IsRetired, IsRead, IsAccepted, IsAbsent, IsOverlong, Lacks, Exceeds, IsReached, PassesSource, PassesScript, IsRefused, IsNotYet, IsScriptNotYet, MeansFrom, RunMeans, MeanMeans, CauseOf, AreTold, SourceFault, IsOrFails, StartsRun, TellsMeaning}
+use Rattle.aegis_run.specs.Answer.{name_for, turns_for, Sends, IsRetired, IsFileRead, IsAccepted, FileFault, StopsAt, IsReached, PassesSource, PassesScript, IsSourceRefused, IsNotYet, IsScriptNotYet, MeansFrom, RunMeans, MeanMeans, CauseOf, AreTold, SourceFault, IsOrFails, StartsRun, TellsMeaning}
 use Rattle.aegis_run.specs.Opening.{Writes}
 use Rattle.aegis_run.proofs.SourceLemmas.{accepted_fault, one_fault, one_text}
 
@@ -65,30 +67,29 @@ sends_nothing row files OutOfMemory old new unwritten sends = sends
 
 -- ---- files are read once
 
--- a file that was read is not absent
-read_absent : (files : Files) (name text : List ℕ) (file : File) (before now : ℕ) → IsRead (Some files) name file text → IsAbsent (Some files) name before now → ⊥
-read_absent files name text file before now read absent = let same : Some text ≡ None = sym read.whole ∙ absent in cc
-
--- a file that was read is not too long
-read_overlong : (files : Files) (name text : List ℕ) (file : File) (before now : ℕ) → IsRead (Some files) name file text → IsOverlong (Some files) name file before now → ⊥
-read_overlong files name text file before now read overlong =
+-- a file that was read is there, and is not too long
+read_fault : (files : Files) (name text : List ℕ) (file : File) (before now : ℕ) (cause : FolderError) → IsFileRead (Some files) name file text → FileFault (Some files) name file before now cause → ⊥
+read_fault files name text file before now folder.Missing read fault = let both : Some text ≡ None = sym read.whole ∙ fault.0 in cc
+read_fault files name text file before now folder.TooLong read fault =
     let same : content_of files name ≡ text = ap (λ found. unwrap_or found []) read.whole in
     let count : length (content_of files name) ≡ length text = ap length same in
-    omega (arith, read.within, overlong, count)
+    omega (arith, read.within, fault.0, count)
+read_fault files name text file before now folder.Failed read fault = fault
+read_fault files name text file before now folder.OutOfMemory read fault = fault
 
 -- a file has one text
-read_once : (files : Files) (name first second : List ℕ) (file : File) → IsRead (Some files) name file first → IsRead (Some files) name file second → first ≡ second
+read_once : (files : Files) (name first second : List ℕ) (file : File) → IsFileRead (Some files) name file first → IsFileRead (Some files) name file second → first ≡ second
 read_once files name first second file one two = let same : Some first ≡ Some second = sym one.whole ∙ two.whole in cc
 
 -- an accepted source was not refused
-refused_accepted : (files : Files) (command : Command) (end : TopEnd) (p : Program) → IsRefused (Some files) command end → IsAccepted (Some files) (name_for command Source) p → ⊥
+refused_accepted : (files : Files) (command : Command) (end : TopEnd) (p : Program) → IsSourceRefused (Some files) command end → IsAccepted (Some files) (name_for command Source) p → ⊥
 refused_accepted files command end p refused accepted =
     let same : refused.text ≡ accepted.text = read_once files (name_for command Source) refused.text accepted.text Source refused.read accepted.read in
     let P : List ℕ → Type 0 = λ text. SourceFault text end in
     accepted_fault accepted.text p end accepted.is_text accepted.typed (subst P same refused.fault)
 
 -- a source is refused in one way
-refused_once : (files : Files) (command : Command) (a b : TopEnd) → IsRefused (Some files) command a → IsRefused (Some files) command b → a ≡ b
+refused_once : (files : Files) (command : Command) (a b : TopEnd) → IsSourceRefused (Some files) command a → IsSourceRefused (Some files) command b → a ≡ b
 refused_once files command a b first second =
     let same : first.text ≡ second.text = read_once files (name_for command Source) first.text second.text Source first.read second.read in
     let P : List ℕ → Type 0 = λ text. SourceFault text a in
@@ -122,17 +123,11 @@ reached_passes files (asks.Mean names) Script other reached = absurd reached
 reached_passes files (asks.Run names) Input other reached = reached.0
 reached_passes files (asks.Mean names) Input other reached = reached.0
 
--- where a source that was read does not pass, no file is missing
-lacks_source : (files : Files) (command : Command) (file : File) (text : List ℕ) (before now : ℕ) → IsRead (Some files) (name_for command Source) Source text → (PassesSource (Some files) command → ⊥) → Lacks command (Some files) file before now → ⊥
-lacks_source files command Source text before now read stops lacks = read_absent files (name_for command Source) text Source before now read lacks.1
-lacks_source files command Script text before now read stops lacks = stops (reached_passes (Some files) command Script (λ same. cc) lacks.0)
-lacks_source files command Input text before now read stops lacks = stops (reached_passes (Some files) command Input (λ same. cc) lacks.0)
-
--- and none is too long
-exceeds_source : (files : Files) (command : Command) (file : File) (text : List ℕ) (before now : ℕ) → IsRead (Some files) (name_for command Source) Source text → (PassesSource (Some files) command → ⊥) → Exceeds command (Some files) file before now → ⊥
-exceeds_source files command Source text before now read stops exceeds = read_overlong files (name_for command Source) text Source before now read exceeds.1
-exceeds_source files command Script text before now read stops exceeds = stops (reached_passes (Some files) command Script (λ same. cc) exceeds.0)
-exceeds_source files command Input text before now read stops exceeds = stops (reached_passes (Some files) command Input (λ same. cc) exceeds.0)
+-- where a source that was read does not pass, no file is missing or too long
+stops_source : (files : Files) (command : Command) (file : File) (text : List ℕ) (before now : ℕ) (cause : FolderError) → IsFileRead (Some files) (name_for command Source) Source text → (PassesSource (Some files) command → ⊥) → StopsAt cause command (Some files) file before now → ⊥
+stops_source files command Source text before now cause read stops fault = read_fault files (name_for command Source) text Source before now cause read fault.1
+stops_source files command Script text before now cause read stops fault = stops (reached_passes (Some files) command Script (λ same. cc) fault.0)
+stops_source files command Input text before now cause read stops fault = stops (reached_passes (Some files) command Input (λ same. cc) fault.0)
 
 -- what means something passed
 means_passes : (files : Option Files) (command : Command) (m : Meaning) → MeansFrom files command m → PassesSource files command
@@ -165,7 +160,7 @@ not_yet_passes files (asks.Run names) not_yet passes =
     let both : Some suits.0 ≡ None = sym suits.1 ∙ literals_once files names.source passes.0 not_yet.0 passes.1 not_yet.1 ∙ not_yet.2 in cc
 
 -- a source that is not run yet was read, and not refused
-not_yet_refused : (files : Files) (command : Command) (end : TopEnd) → IsNotYet (Some files) command → IsRefused (Some files) command end → ⊥
+not_yet_refused : (files : Files) (command : Command) (end : TopEnd) → IsNotYet (Some files) command → IsSourceRefused (Some files) command end → ⊥
 not_yet_refused files (asks.Mean names) end not_yet refused = not_yet
 not_yet_refused files (asks.Run names) end not_yet refused = refused_accepted files (asks.Run names) end not_yet.0 refused not_yet.1
 
@@ -180,7 +175,7 @@ holds_passes files (asks.Mean names) holds passes = holds
 
 -- ---- where a source is refused, no other answer has a cause
 
-pub refuses_source : (files : Option Files) (command : Command) (before now : ℕ) (expected end : TopEnd) → AreTold files → IsRefused files command expected → CauseOf command files before now end → IsOrFails expected end
+pub refuses_source : (files : Option Files) (command : Command) (before now : ℕ) (expected end : TopEnd) → AreTold files → IsSourceRefused files command expected → CauseOf command files before now end → IsOrFails expected end
 refuses_source None command before now expected end told refused cause = absurd told
 refuses_source (Some files) command before now expected end told refused cause = go end cause
   where
@@ -189,8 +184,8 @@ refuses_source (Some files) command before now expected end told refused cause =
 
     go : (end : TopEnd) → CauseOf command (Some files) before now end → IsOrFails expected end
     go Usage cause = absurd cause
-    go (NoFile file) cause = absurd (lacks_source files command file refused.text before now refused.read stops cause)
-    go (TooLong file) cause = absurd (exceeds_source files command file refused.text before now refused.read stops cause)
+    go (NoFile file) cause = absurd (stops_source files command file refused.text before now folder.Missing refused.read stops cause)
+    go (TooLong file) cause = absurd (stops_source files command file refused.text before now folder.TooLong refused.read stops cause)
     go (Token error) cause = inl (refused_once files command (Token error) expected cause refused)
     go (Syntax error) cause = inl (refused_once files command (Syntax error) expected cause refused)
     go (Typing error) cause = inl (refused_once files command (Typing error) expected cause refused)
@@ -215,8 +210,8 @@ not_yet (Some files) (asks.Run names) before now end told source cause = go end 
 
     go : (end : TopEnd) → CauseOf (asks.Run names) (Some files) before now end → IsOrFails (NotYet Source) end
     go Usage cause = absurd cause
-    go (NoFile file) cause = absurd (lacks_source files (asks.Run names) file source.1.text before now source.1.read stops cause)
-    go (TooLong file) cause = absurd (exceeds_source files (asks.Run names) file source.1.text before now source.1.read stops cause)
+    go (NoFile file) cause = absurd (stops_source files (asks.Run names) file source.1.text before now folder.Missing source.1.read stops cause)
+    go (TooLong file) cause = absurd (stops_source files (asks.Run names) file source.1.text before now folder.TooLong source.1.read stops cause)
     go (Token error) cause = absurd (refused_accepted files (asks.Run names) (Token error) source.0 cause source.1)
     go (Syntax error) cause = absurd (refused_accepted files (asks.Run names) (Syntax error) source.0 cause source.1)
     go (Typing error) cause = absurd (refused_accepted files (asks.Run names) (Typing error) source.0 cause source.1)
@@ -232,7 +227,7 @@ not_yet (Some files) (asks.Run names) before now end told source cause = go end 
 -- ---- where the source passes, only a later file or the run itself decides
 
 -- an accepted source was refused in no way
-passes_refused : (files : Files) (command : Command) (end : TopEnd) → PassesSource (Some files) command → IsRefused (Some files) command end → ⊥
+passes_refused : (files : Files) (command : Command) (end : TopEnd) → PassesSource (Some files) command → IsSourceRefused (Some files) command end → ⊥
 passes_refused files command end passes refused = refused_accepted files command end passes.0 refused passes.1
 
 pub script_not_yet : (files : Option Files) (command : Command) (before now : ℕ) (end : TopEnd) → AreTold files → IsScriptNotYet files command → CauseOf command files before now end → IsOrFails (NotYet Script) end
@@ -248,11 +243,11 @@ script_not_yet (Some files) (asks.Run names) before now end told holds cause = g
 
     go : (end : TopEnd) → CauseOf (asks.Run names) (Some files) before now end → IsOrFails (NotYet Script) end
     go Usage cause = absurd cause
-    go (NoFile Source) cause = absurd (read_absent files names.source passes.1.text Source before now passes.1.read cause.1)
-    go (NoFile Script) cause = absurd (read_absent files names.script holds.text Script before now holds.read cause.1)
+    go (NoFile Source) cause = absurd (read_fault files names.source passes.1.text Source before now folder.Missing passes.1.read cause.1)
+    go (NoFile Script) cause = absurd (read_fault files names.script holds.text Script before now folder.Missing holds.read cause.1)
     go (NoFile Input) cause = absurd (stops cause.0.1)
-    go (TooLong Source) cause = absurd (read_overlong files names.source passes.1.text Source before now passes.1.read cause.1)
-    go (TooLong Script) cause = absurd (read_overlong files names.script holds.text Script before now holds.read cause.1)
+    go (TooLong Source) cause = absurd (read_fault files names.source passes.1.text Source before now folder.TooLong passes.1.read cause.1)
+    go (TooLong Script) cause = absurd (read_fault files names.script holds.text Script before now folder.TooLong holds.read cause.1)
     go (TooLong Input) cause = absurd (stops cause.0.1)
     go (Token error) cause = absurd (passes_refused files (asks.Run names) (Token error) passes cause)
     go (Syntax error) cause = absurd (passes_refused files (asks.Run names) (Syntax error) passes cause)
@@ -266,19 +261,12 @@ script_not_yet (Some files) (asks.Run names) before now end told holds cause = g
     go (Run how) cause = absurd (stops cause.1.script_read)
     go (Mean how) cause = absurd cause.1
 
--- where all files were read, none is missing
-lacks_means : (files : Files) (command : Command) (file : File) (m : Meaning) (before now : ℕ) → MeansFrom (Some files) command m → Lacks command (Some files) file before now → ⊥
-lacks_means files command Source m before now means lacks = read_absent files (name_for command Source) means.accepted.text Source before now means.accepted.read lacks.1
-lacks_means files (asks.Run names) Script m before now means lacks = read_absent files names.script [] Script before now means.script_read lacks.1
-lacks_means files (asks.Mean names) Script m before now means lacks = lacks.0
-lacks_means files command Input m before now means lacks = read_absent files (name_for command Input) means.input Input before now means.input_read lacks.1
-
--- and none is too long
-exceeds_means : (files : Files) (command : Command) (file : File) (m : Meaning) (before now : ℕ) → MeansFrom (Some files) command m → Exceeds command (Some files) file before now → ⊥
-exceeds_means files command Source m before now means exceeds = read_overlong files (name_for command Source) means.accepted.text Source before now means.accepted.read exceeds.1
-exceeds_means files (asks.Run names) Script m before now means exceeds = read_overlong files names.script [] Script before now means.script_read exceeds.1
-exceeds_means files (asks.Mean names) Script m before now means exceeds = exceeds.0
-exceeds_means files command Input m before now means exceeds = read_overlong files (name_for command Input) means.input Input before now means.input_read exceeds.1
+-- where all files were read, none is missing or too long
+stops_means : (files : Files) (command : Command) (file : File) (m : Meaning) (before now : ℕ) (cause : FolderError) → MeansFrom (Some files) command m → StopsAt cause command (Some files) file before now → ⊥
+stops_means files command Source m before now cause means fault = read_fault files (name_for command Source) means.accepted.text Source before now cause means.accepted.read fault.1
+stops_means files (asks.Run names) Script m before now cause means fault = read_fault files names.script [] Script before now cause means.script_read fault.1
+stops_means files (asks.Mean names) Script m before now cause means fault = fault.0
+stops_means files command Input m before now cause means fault = read_fault files (name_for command Input) means.input Input before now cause means.input_read fault.1
 
 -- a script that was passed is not one that asks for what is not built
 means_script : (files : Files) (command : Command) (m : Meaning) → MeansFrom (Some files) command m → IsScriptNotYet (Some files) command → ⊥
@@ -296,8 +284,8 @@ starts_run (Some files) command m before now end told means cause = go end cause
 
     go : (end : TopEnd) → CauseOf command (Some files) before now end → StartsRun end
     go Usage cause = cause
-    go (NoFile file) cause = absurd (lacks_means files command file m before now from cause)
-    go (TooLong file) cause = absurd (exceeds_means files command file m before now from cause)
+    go (NoFile file) cause = absurd (stops_means files command file m before now folder.Missing from cause)
+    go (TooLong file) cause = absurd (stops_means files command file m before now folder.TooLong from cause)
     go (Token error) cause = absurd (passes_refused files command (Token error) passes cause)
     go (Syntax error) cause = absurd (passes_refused files command (Syntax error) passes cause)
     go (Typing error) cause = absurd (passes_refused files command (Typing error) passes cause)
@@ -322,8 +310,8 @@ tells_meaning (Some files) command m before now end told means cause = go end ca
 
     go : (end : TopEnd) → CauseOf command (Some files) before now end → TellsMeaning m.end end
     go Usage cause = cause
-    go (NoFile file) cause = absurd (lacks_means files command file m before now from cause)
-    go (TooLong file) cause = absurd (exceeds_means files command file m before now from cause)
+    go (NoFile file) cause = absurd (stops_means files command file m before now folder.Missing from cause)
+    go (TooLong file) cause = absurd (stops_means files command file m before now folder.TooLong from cause)
     go (Token error) cause = absurd (passes_refused files command (Token error) passes cause)
     go (Syntax error) cause = absurd (passes_refused files command (Syntax error) passes cause)
     go (Typing error) cause = absurd (passes_refused files command (Typing error) passes cause)

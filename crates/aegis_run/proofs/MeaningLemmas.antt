@@ -1,7 +1,9 @@
 -- What programs of literal releases mean: they release the low bytes of their literals, and end.
-use Rattle.std.proofs.Common.{◌≡◌, ℕ, ◌+◌, ◌%◌, cond, Bool, true, false, not, ◌&&◌, List, [], ◌∷◌, ◌++◌, map, Option, None, Some, refl, sym, ◌∙◌, ap, subst, append_assoc, append-nil, eq-eqb}
-use Rattle.std.specs.Prelude.{codes, is_some}
+use Rattle.std.proofs.Common.{◌≡◌, ℕ, ◌+◌, ◌%◌, cond, Bool, true, false, not, ◌&&◌, List, length, [], ◌∷◌, ◌++◌, map, Option, None, Some, refl, sym, ◌∙◌, ap, subst, append_assoc, append-nil, eq-eqb, arith}
+use Rattle.std.specs.Prelude.{◌==◌, codes, is_some}
 use Rattle.std.specs.Str.{bytes_eq}
+use Rattle.std.proofs.lemmas.Bool.Decides.{nat_tests}
+use Rattle.std.proofs.lemmas.List.{nil_from_length}
 use Rattle.c_grammar.specs.declared.expr.Expr.{Expr}
 use Rattle.c_grammar.specs.declared.expr.Expr.TheVariants as expr
 use Rattle.c_grammar.specs.declared.expr.Expr.TheOpen.{Expr-F}
@@ -11,7 +13,6 @@ use Rattle.c_grammar.specs.declared.stmt.Stmt.TheVariants as stmt
 use Rattle.c_grammar.specs.declared.stmt.Stmt.TheOpen.{Stmt-F}
 use Rattle.c_grammar.specs.declared.stmt.Stmt.TheFolds.{fold-roll-Stmt}
 use Rattle.c_grammar.specs.declared.item.Kind3.{Kind3}
-use Rattle.c_grammar.specs.declared.item.Kind3.TheVariants.{Int, Unsigned, Void}
 use Rattle.c_grammar.specs.declared.item.Parameter.{Parameter}
 use Rattle.c_grammar.specs.declared.item.Item.{Item}
 use Rattle.c_grammar.specs.declared.item.Item.TheVariants as item
@@ -23,7 +24,8 @@ use Rattle.c_semantics.specs.States.{Setting, State, Ended, Outcome, GoesOn, the
 use Rattle.c_semantics.specs.Meaning.{Calls, Flow, Returned, result_of, Meaning, meaning, meaning_of, first_state, no_calls, mean_alone}
 use Rattle.regions.specs.LooseClasses.{nothing_loose}
 use Rattle.c_resolver.specs.Resolving.{Resolved, expr_step, typed, ResolvedStmt, stmt_step, resolved, body_in, function_number, main_token, plain_program}
-use Rattle.aegis_run.specs.Literals.{literal_in, released_by, returns_literal, body_literals, answers_int, takes_nothing, is_plain_main, item_literals, items_literals, literals_of}
+use Rattle.c_types.specs.Checked.{is_int, is_main}
+use Rattle.aegis_run.specs.Literals.{literal_in, released_by, returns_literal, body_literals, item_literals, items_literals, literals_of}
 use Rattle.aegis_run.proofs.LengthLemmas.{parts, where_true}
 
 -- ---- the forms of these expressions and statements
@@ -256,21 +258,26 @@ record MainIs (named : Bool) (parameters : List Parameter) : Type 0 where
   named_is : named ≡ true
   parameters_are : parameters ≡ []
 
-main_form : (private : Bool) (result : Kind3) (named : Bool) (parameters : List Parameter) → (not private && answers_int result && named && takes_nothing parameters) ≡ true → MainIs named parameters
-main_form false Int true [] same = record { named_is = refl; parameters_are = refl }
-main_form true result named parameters same = absurd cc
-main_form false Unsigned named parameters same = absurd cc
-main_form false Void named parameters same = absurd cc
-main_form false Int false parameters same = absurd cc
-main_form false Int true (first ∷ later) same = absurd cc
+-- both parts of a test that passes
+both : (a b : Bool) → (a && b) ≡ true → (a ≡ true) × (b ≡ true)
+both true b same = (refl, same)
+both false b same = absurd cc
+
+main_form : (private : Bool) (result : Kind3) (named : Bool) (parameters : List Parameter) → (named && is_int result && (length parameters == 0) && not private) ≡ true → MainIs named parameters
+main_form private result named parameters same =
+    let outer = both (named && is_int result && (length parameters == 0)) (not private) same in
+    let inner = both (named && is_int result) (length parameters == 0) outer.0 in
+    let first = both named (is_int result) inner.0 in
+    let none : length parameters ≡ 0 = grind (arith, nat_tests, inner.1) in
+    record { named_is = first.0; parameters_are = nil_from_length parameters none }
 
 item_means : (x : Item) (literals input : List ℕ) (turns : ℕ) → item_literals x ≡ Some literals → IsRun literals (mean_alone (tree_in (x ∷ [])) input turns)
 item_means (item.Object class unsigned name length token) literals input turns same = absurd cc
 item_means (item.Constant unsigned name length values braces token) literals input turns same = absurd cc
 item_means (item.Untrusted name token) literals input turns same = absurd cc
 item_means (item.Function private result name parameters body token) literals input turns same =
-    let is = main_form private result (bytes_eq name (codes "main")) parameters (chosen (is_plain_main private result name parameters) (body_literals body) literals same) in
-    let found = where_true (is_plain_main private result name parameters) (body_literals body) literals same in
+    let is = main_form private result (bytes_eq name (codes "main")) parameters (chosen (is_main (item.Function private result name parameters body token)) (body_literals body) literals same) in
+    let found = where_true (is_main (item.Function private result name parameters body token)) (body_literals body) literals same in
     let number : function_number (token ∷ []) (main_token (declarations_of (item.Function private result name [] body token ∷ []))) ≡ 0 =
     ap (function_number (token ∷ [])) (main_alone private result name [] body token is.named_is) ∙ number_alone token in
     let P : List Parameter → Type 0 = λ parameters. IsRun literals (mean_alone (tree_in (item.Function private result name parameters body token ∷ [])) input turns) in

@@ -1,7 +1,10 @@
 -- Promise: why the program answers what it answers: the words, and what a folder tells of the files that they name.
-use Rattle.std.specs.Prelude.{◌≡◌, ◌≢◌, ◌⊎◌, ℕ, ◌+◌, ◌*◌, ◌<◌, ◌≤◌, List, [], length, Option, None, Some, IfSome}
+use Rattle.std.specs.Prelude.{◌≡◌, ◌≢◌, ◌⊎◌, ℕ, ◌+◌, ◌*◌, ◌≤◌, List, [], length, Option, None, Some, IfSome}
+use Rattle.aegis_num.specs.declared.limits.TheConstants.{MAX_NESTING}
 use Rattle.aegis_edge.specs.Faults.{Rose}
-use Rattle.aegis_edge.specs.Folder.{Files, HoldsWhole, content_of}
+use Rattle.aegis_edge.specs.Folder.{Files, HoldsWhole, IsMissing, IsTooLong}
+use Rattle.aegis_edge.specs.declared.folder.FolderError.{FolderError}
+use Rattle.aegis_edge.specs.declared.folder.FolderError.TheVariants as folder
 use Rattle.aegis_edge.specs.Sink.{Appends, AppendsFront}
 use Rattle.c_evaluator.specs.MachineStates.{end_of}
 use Rattle.c_grammar.specs.declared.item.Program.{Program}
@@ -37,18 +40,18 @@ name_for (asks.Mean names) Input = names.input
 
 -- how many loop turns the meaning of a command may make: all that a run with this fuel can come to, or as many as the words say
 abbrev pub turns_for : Command → ℕ
-turns_for (asks.Run names) = 64 * (names.fuel + 1)
+turns_for (asks.Run names) = MAX_NESTING * (names.fuel + 1)
 turns_for (asks.Mean names) = names.turns
 
 -- a file is there with this text, where the folder tells its files, and is not too long
-pub record IsRead (files : Option Files) (name : List ℕ) (file : File) (text : List ℕ) : Type 0 where
+pub record IsFileRead (files : Option Files) (name : List ℕ) (file : File) (text : List ℕ) : Type 0 where
   pub whole : HoldsWhole files name text
   pub within : length text ≤ limit_for file
 
 -- the source was read, and is this program, which keeps the typing rules
 pub record IsAccepted (files : Option Files) (name : List ℕ) (program : Program) : Type 0 where
   pub text : List ℕ
-  pub read : IsRead files name Source text
+  pub read : IsFileRead files name Source text
   pub is_text : HasProgram text program
   pub typed : IsTyped program
 
@@ -63,7 +66,7 @@ PassesSource files command = (program : Program) × IsAccepted files (name_for c
 
 -- the script was read, and is empty
 abbrev pub PassesScript : Option Files → Command → Type 0
-PassesScript files (asks.Run names) = IsRead files names.script Script []
+PassesScript files (asks.Run names) = IsFileRead files names.script Script []
 PassesScript files (asks.Mean names) = Unit {0}
 
 -- a file is opened only where the command names it, and the files before it were read and let it go on
@@ -73,23 +76,16 @@ IsReached files (asks.Run names) Script = PassesSource files (asks.Run names)
 IsReached files (asks.Mean names) Script = ⊥
 IsReached files command Input = PassesSource files command × PassesScript files command
 
--- no file has the name, as it is told; a folder that tells nothing counted a fault
-abbrev pub IsAbsent : Option Files → List ℕ → ℕ → ℕ → Type 0
-IsAbsent None name before now = Rose before now
-IsAbsent (Some files) name before now = files name ≡ None
+-- a file is not read for this cause: no file has the name, or it is too long
+abbrev pub FileFault : Option Files → List ℕ → File → ℕ → ℕ → FolderError → Type 0
+FileFault files name file before now folder.Missing = IsMissing files name before now
+FileFault files name file before now folder.TooLong = IsTooLong files name (limit_for file) before now
+FileFault files name file before now folder.Failed = ⊥
+FileFault files name file before now folder.OutOfMemory = ⊥
 
--- the file of the name is too long, as it is told; a folder that tells nothing counted a fault
-abbrev pub IsOverlong : Option Files → List ℕ → File → ℕ → ℕ → Type 0
-IsOverlong None name file before now = Rose before now
-IsOverlong (Some files) name file before now = limit_for file < length (content_of files name)
-
--- a file is opened and is not there
-abbrev pub Lacks : Command → Option Files → File → ℕ → ℕ → Type 0
-Lacks command files file before now = IsReached files command file × IsAbsent files (name_for command file) before now
-
--- a file is opened and is too long
-abbrev pub Exceeds : Command → Option Files → File → ℕ → ℕ → Type 0
-Exceeds command files file before now = IsReached files command file × IsOverlong files (name_for command file) file before now
+-- a file is opened, and is not read for this cause
+abbrev pub StopsAt : FolderError → Command → Option Files → File → ℕ → ℕ → Type 0
+StopsAt cause command files file before now = IsReached files command file × FileFault files (name_for command file) file before now cause
 
 -- the program of the text breaks a typing rule, or has no `main`
 pub record HasTypeFault (text : List ℕ) (error : TypeError) : Type 0 where
@@ -108,9 +104,9 @@ SourceFault text (Typing error) = HasTypeFault text error
 SourceFault text end = ⊥
 
 -- the source was read, and is refused, as this answer says
-pub record IsRefused (files : Option Files) (command : Command) (end : TopEnd) : Type 0 where
+pub record IsSourceRefused (files : Option Files) (command : Command) (end : TopEnd) : Type 0 where
   pub text : List ℕ
-  pub read : IsRead files (name_for command Source) Source text
+  pub read : IsFileRead files (name_for command Source) Source text
   pub fault : SourceFault text end
 
 -- the source of a run is a program that is not run yet
@@ -122,7 +118,7 @@ IsNotYet files (asks.Mean names) = ⊥
 pub record HoldsScript (files : Option Files) (names : RunNames) : Type 0 where
   pub reached : IsReached files (asks.Run names) Script
   pub text : List ℕ
-  pub read : IsRead files names.script Script text
+  pub read : IsFileRead files names.script Script text
   pub some : text ≢ []
 
 abbrev pub IsScriptNotYet : Option Files → Command → Type 0
@@ -136,7 +132,7 @@ pub record MeansFrom (files : Option Files) (command : Command) (meaning : Meani
   pub suits : Suits command program
   pub script_read : PassesScript files command
   pub input : List ℕ
-  pub input_read : IsRead files (name_for command Input) Input input
+  pub input_read : IsFileRead files (name_for command Input) Input input
   pub meaning_is : mean_alone (plain_program program) input (turns_for command) ≡ meaning
 
 -- a run means this
@@ -152,11 +148,11 @@ MeanMeans files (asks.Mean names) meaning = MeansFrom files (asks.Mean names) me
 -- why each answer comes: the command, a folder's files, and its count of faults before the call and now
 abbrev pub CauseOf : Command → Option Files → ℕ → ℕ → TopEnd → Type 0
 CauseOf command files before now Usage = ⊥
-CauseOf command files before now (NoFile file) = Lacks command files file before now
-CauseOf command files before now (TooLong file) = Exceeds command files file before now
-CauseOf command files before now (Token error) = IsRefused files command (Token error)
-CauseOf command files before now (Syntax error) = IsRefused files command (Syntax error)
-CauseOf command files before now (Typing error) = IsRefused files command (Typing error)
+CauseOf command files before now (NoFile file) = StopsAt folder.Missing command files file before now
+CauseOf command files before now (TooLong file) = StopsAt folder.TooLong command files file before now
+CauseOf command files before now (Token error) = IsSourceRefused files command (Token error)
+CauseOf command files before now (Syntax error) = IsSourceRefused files command (Syntax error)
+CauseOf command files before now (Typing error) = IsSourceRefused files command (Typing error)
 CauseOf command files before now (NotYet Source) = IsNotYet files command
 CauseOf command files before now (NotYet Script) = IsScriptNotYet files command
 CauseOf command files before now (NotYet Input) = ⊥

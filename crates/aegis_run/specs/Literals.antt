@@ -1,16 +1,13 @@
 -- Promise: the programs that are run so far: `main` releases literals one after another, and returns a literal.
-use Rattle.std.specs.Prelude.{ℕ, ◌%◌, Bool, true, false, not, ◌&&◌, List, [], ◌∷◌, map, codes, Option, Some, None, is_some, if◌then◌else◌}
-use Rattle.std.specs.Str.{bytes_eq}
+use Rattle.std.specs.Prelude.{ℕ, ◌%◌, Bool, false, List, [], ◌∷◌, map, Option, Some, None, is_some, if◌then◌else◌}
 use Rattle.c_grammar.specs.declared.expr.Expr.{Expr}
 use Rattle.c_grammar.specs.declared.expr.Expr.TheVariants as expr
 use Rattle.c_grammar.specs.declared.stmt.Stmt.{Stmt}
 use Rattle.c_grammar.specs.declared.stmt.Stmt.TheVariants as stmt
-use Rattle.c_grammar.specs.declared.item.Kind3.{Kind3}
-use Rattle.c_grammar.specs.declared.item.Kind3.TheVariants.{Int, Unsigned, Void}
-use Rattle.c_grammar.specs.declared.item.Parameter.{Parameter}
 use Rattle.c_grammar.specs.declared.item.Item.{Item}
 use Rattle.c_grammar.specs.declared.item.Item.TheVariants as item
 use Rattle.c_grammar.specs.declared.item.Program.{Program}
+use Rattle.c_types.specs.Checked.{is_main}
 
 -- the number that an expression is, if it is a literal
 abbrev pub literal_in : Expr → Option ℕ
@@ -39,21 +36,10 @@ body_literals [] = None
 body_literals (last ∷ []) = if returns_literal last then Some [] else None
 body_literals (statement ∷ second ∷ later) = in_front (released_by statement) (body_literals (second ∷ later))
 
-abbrev pub answers_int : Kind3 → Bool
-answers_int Int = true
-answers_int Unsigned = false
-answers_int Void = false
-
-abbrev pub takes_nothing : List Parameter → Bool
-takes_nothing [] = true
-takes_nothing (first ∷ later) = false
-
--- a function `main` that answers int, takes nothing and is not private
-abbrev pub is_plain_main : Bool → Kind3 → List ℕ → List Parameter → Bool
-is_plain_main private result name parameters = not private && answers_int result && bytes_eq name (codes "main") && takes_nothing parameters
-
+-- what an item releases, if it is the function `main`
 abbrev pub item_literals : Item → Option (List ℕ)
-item_literals (item.Function private result name parameters body token) = if is_plain_main private result name parameters then body_literals body else None
+item_literals (item.Function private result name parameters body token) =
+    if is_main (item.Function private result name parameters body token) then body_literals body else None
 item_literals other = None
 
 -- the literals that a program releases, in order, if it is such a function alone

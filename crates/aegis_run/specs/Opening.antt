@@ -2,6 +2,7 @@
 use Rattle.std.specs.Prelude.{◌≡◌, ℕ, List, Option, None}
 use Rattle.aegis_edge.specs.Faults.{Rose}
 use Rattle.aegis_edge.specs.Folder.{Files}
+use Rattle.aegis_edge.specs.declared.folder.FolderError.TheVariants as folder
 use Rattle.aegis_words.specs.declared.file.File.{File}
 use Rattle.aegis_run.specs.declared.ends.TopEnd.{TopEnd}
 use Rattle.aegis_run.specs.declared.ends.TopEnd.TheVariants.{Run, Mean, TooLong, NotYet, NoFile, ReadFault, WriteFault, OutOfMemory}
@@ -9,7 +10,7 @@ use Rattle.aegis_words.specs.declared.file.File.TheVariants.{Source}
 use Rattle.aegis_run.specs.Literals.{literals_of}
 use Rattle.c_grammar.specs.declared.item.Program.{Program}
 use Rattle.aegis_words.specs.CommandTable.{Command}
-use Rattle.aegis_run.specs.Answer.{IsAbsent, IsOverlong, RunMeans, SourceFault}
+use Rattle.aegis_run.specs.Answer.{FileFault, RunMeans, SourceFault}
 use Rattle.aegis_run.specs.declared.ends.End.TheVariants as run
 use Rattle.aegis_edge.specs.Sink.{Appends, AppendsFront}
 use Rattle.c_evaluator.specs.MachineStates.{end_of}
@@ -18,8 +19,8 @@ use Rattle.c_semantics.specs.States as outcome
 
 -- why a file is not read, and which answer says so
 abbrev pub OpenCause : Option Files → List ℕ → File → ℕ → ℕ → TopEnd → Type 0
-OpenCause files name file before now (NoFile named) = (named ≡ file) × IsAbsent files name before now
-OpenCause files name file before now (TooLong named) = (named ≡ file) × IsOverlong files name file before now
+OpenCause files name file before now (NoFile named) = (named ≡ file) × FileFault files name file before now folder.Missing
+OpenCause files name file before now (TooLong named) = (named ≡ file) × FileFault files name file before now folder.TooLong
 OpenCause files name file before now ReadFault = Rose before now
 OpenCause files name file before now OutOfMemory = Unit {0}
 OpenCause files name file before now end = ⊥

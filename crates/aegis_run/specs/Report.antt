@@ -39,10 +39,10 @@ status_of end true = status_when_noted end
 status_of end false = 5
 
 -- what a file is called
-abbrev pub name_of : File → List ℕ
-name_of Source = codes "source"
-name_of Script = codes "script"
-name_of Input = codes "input"
+abbrev pub file_word : File → List ℕ
+file_word Source = codes "source"
+file_word Script = codes "script"
+file_word Input = codes "input"
 
 -- a line that tells a place, and what is wrong there
 abbrev pub place_line : List ℕ → ℕ → List ℕ → List ℕ
@@ -89,12 +89,12 @@ line_of (Run run.Ended) retired = codes "ended retired " ++ decimal retired ++ c
 line_of (Run run.WriteFault) retired = codes "write fault\n"
 line_of (Mean end) retired = meaning_line end
 line_of Usage retired = codes "usage: run SOURCE SCRIPT INPUT FUEL KEY NONCE, mean SOURCE INPUT TURNS\n"
-line_of (TooLong file) retired = codes "too long: " ++ name_of file ++ codes "\n"
+line_of (TooLong file) retired = codes "too long: " ++ file_word file ++ codes "\n"
 line_of (Token error) retired = token_line error
 line_of (Syntax error) retired = syntax_line error
 line_of (Typing error) retired = type_line error
-line_of (NotYet file) retired = codes "not yet " ++ name_of file ++ codes "\n"
-line_of (NoFile file) retired = codes "no file: " ++ name_of file ++ codes "\n"
+line_of (NotYet file) retired = codes "not yet " ++ file_word file ++ codes "\n"
+line_of (NoFile file) retired = codes "no file: " ++ file_word file ++ codes "\n"
 line_of ReadFault retired = codes "read fault\n"
 line_of WriteFault retired = codes "write fault\n"
 line_of OutOfMemory retired = codes "out of memory\n"

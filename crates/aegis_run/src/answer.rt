@@ -1,11 +1,13 @@
 //! The way of a call: its words, its files, the code and its run, or the meaning.
-ghost use Rattle.std.specs.Prelude.{◌≡◌, ◌≢◌, ◌+◌, ◌*◌, ◌^◌, ◌<◌, ◌≤◌, None, Some, length, IfOk, OnErr};
+ghost use Rattle.std.specs.Prelude.{◌≡◌, ◌≢◌, ◌+◌, ◌*◌, ◌^◌, ◌<◌, ◌≤◌, None, Some, length, IfOk, OnErr, IfSome};
 ghost use Rattle.std.specs.List.{AllByRecursion};
 ghost use Rattle.aegis_edge.specs.Faults.{Rose};
+ghost use Rattle.aegis_edge.specs.Folder.{Asks};
 ghost use Rattle.c_resolver.specs.Resolving.{plain_program};
 ghost use Rattle.c_semantics.specs.Meaning.{mean_alone};
-ghost use Rattle.aegis_words.specs.CommandTable.{command_in};
+ghost use Rattle.aegis_words.specs.CommandTable.{command_in, steps_of};
 ghost use Rattle.aegis_words.specs.CommandTable as asks;
+ghost use Rattle.aegis_words.specs.FileSteps.{askings_for};
 ghost use Rattle.aegis_words.specs.KeptWords.{mean_names_of, names_of};
 ghost use Rattle.aegis_run.specs.Answer.{Cause, CauseOf, AreTold, Sends, IsRetired};
 ghost use Rattle.aegis_run.specs.Literals.{released};
@@ -48,6 +50,9 @@ pub fn answer_words<F: Folder, K: Sink>(
         result.end result.retired }
     ensures kept { F.files folder.new ≡ F.files folder.old }
     ensures steady { Writes result.end → F.faults folder.new ≡ F.faults folder.old }
+    ensures asked { Writes result.end → IfSome (command_in words.now) (λ command.
+        Asks (F.asked folder.old) (F.asked folder.new)
+        (askings_for (F.faults folder.old) (steps_of command))) }
     ensures told_steady { AreTold (F.files folder.old)
         → result.end ≢ TopEnd.ReadFault → result.end ≢ TopEnd.OutOfMemory
         → F.faults folder.new ≡ F.faults folder.old }
@@ -85,6 +90,8 @@ fn answer_run<F: Folder, K: Sink>(
         result.end result.retired }
     ensures kept { F.files folder.new ≡ F.files folder.old }
     ensures steady { Writes result.end → F.faults folder.new ≡ F.faults folder.old }
+    ensures asked { Writes result.end → Asks (F.asked folder.old) (F.asked folder.new)
+        (askings_for (F.faults folder.old) (steps_of (asks.Run (names_of names.now)))) }
     ensures told_steady { AreTold (F.files folder.old)
         → result.end ≢ TopEnd.ReadFault → result.end ≢ TopEnd.OutOfMemory
         → F.faults folder.new ≡ F.faults folder.old }
@@ -113,6 +120,8 @@ fn answer_mean<F: Folder, K: Sink>(
     ensures fault { IsWriteFault result → Rose (K.faults out.old) (K.faults out.new) }
     ensures kept { F.files folder.new ≡ F.files folder.old }
     ensures steady { Writes result → F.faults folder.new ≡ F.faults folder.old }
+    ensures asked { Writes result → Asks (F.asked folder.old) (F.asked folder.new)
+        (askings_for (F.faults folder.old) (steps_of (asks.Mean (mean_names_of names.now)))) }
     ensures told_steady { AreTold (F.files folder.old)
         → result ≢ TopEnd.ReadFault → result ≢ TopEnd.OutOfMemory
         → F.faults folder.new ≡ F.faults folder.old }

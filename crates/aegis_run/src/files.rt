@@ -1,14 +1,17 @@
 //! The files that a command reads, in their order.
 ghost use Rattle.std.specs.Prelude.{◌≡◌, ◌≢◌, ◌≤◌, ◌*◌, ℕ, List, Some, length, IfOk, IfErr, OnOk};
+ghost use Rattle.aegis_edge.specs.Folder.{Asks, AsksOne};
 ghost use Rattle.c_grammar.specs.TokenPrograms.{AreProgram, HasProgram};
 ghost use Rattle.c_types.specs.Checked.{IsReadProgram, IsTyped};
 ghost use Rattle.aegis_words.specs.declared.file.File.TheVariants as file;
-ghost use Rattle.aegis_run.specs.Answer.{IsRead, IsAccepted, AreTold, CauseOf};
+ghost use Rattle.aegis_run.specs.Answer.{IsFileRead, IsAccepted, AreTold, CauseOf};
 ghost use Rattle.c_reader.specs.SourceText.{HasTokens};
 ghost use Rattle.c_token.specs.PlainText.{kinds_of};
 ghost use Rattle.aegis_run.specs.Literals.{literals_of as literals_are, released};
 ghost use Rattle.aegis_run.specs.Opening.{AcceptCause, OpenCause, NotRunCause, IsReady, Writes};
+ghost use Rattle.aegis_words.specs.CommandTable.{steps_of};
 ghost use Rattle.aegis_words.specs.CommandTable as asks;
+ghost use Rattle.aegis_words.specs.FileSteps.{askings_for};
 ghost use Rattle.aegis_words.specs.KeptWords.{mean_names_of, names_of};
 
 use crate::ends::TopEnd;
@@ -56,6 +59,8 @@ pub fn prepare_run<F: Folder>(
         AreTold (F.files folder.old) → end ≢ TopEnd.ReadFault → end ≢ TopEnd.OutOfMemory
         → F.faults folder.new ≡ F.faults folder.old) }
     ensures steady { OnOk result (F.faults folder.new ≡ F.faults folder.old) }
+    ensures asked { OnOk result (Asks (F.asked folder.old) (F.asked folder.new)
+        (askings_for (F.faults folder.old) (steps_of (asks.Run (names_of names.now))))) }
     ensures kept { F.files folder.new ≡ F.files folder.old }
 {
     let source = open(alloc, folder, names.source, File::Source)?;
@@ -80,7 +85,7 @@ pub fn prepare_mean<F: Folder>(
     ensures source { IfOk result (λ accepted.
         IsAccepted (F.files folder.old) names.now.source.now accepted.program) }
     ensures input { IfOk result (λ accepted.
-        IsRead (F.files folder.old) names.now.input.now file.Input accepted.input.items) }
+        IsFileRead (F.files folder.old) names.now.input.now file.Input accepted.input.items) }
     ensures refused { IfErr result (λ end.
         CauseOf (asks.Mean (mean_names_of names.now)) (F.files folder.old)
         (F.faults folder.old) (F.faults folder.new) end) }
@@ -89,6 +94,8 @@ pub fn prepare_mean<F: Folder>(
         AreTold (F.files folder.old) → end ≢ TopEnd.ReadFault → end ≢ TopEnd.OutOfMemory
         → F.faults folder.new ≡ F.faults folder.old) }
     ensures steady { OnOk result (F.faults folder.new ≡ F.faults folder.old) }
+    ensures asked { OnOk result (Asks (F.asked folder.old) (F.asked folder.new)
+        (askings_for (F.faults folder.old) (steps_of (asks.Mean (mean_names_of names.now))))) }
     ensures kept { F.files folder.new ≡ F.files folder.old }
 {
     let source = open(alloc, folder, names.source, File::Source)?;
@@ -169,12 +176,14 @@ fn checked_in(alloc: Global, text: &[u8], program: Program) -> Result<Checked, T
 
 /// The whole text of a file, which holds at most its limit.
 fn open<F: Folder>(alloc: Global, folder: &mut F, name: &str, file: File) -> Result<Vec<u8>, TopEnd>
-    ensures read { IfOk result (λ text. IsRead (F.files folder.old) name.now file text.items) }
+    ensures read { IfOk result (λ text. IsFileRead (F.files folder.old) name.now file text.items) }
     ensures steady { OnOk result (F.faults folder.new ≡ F.faults folder.old) }
     ensures refused { IfErr result (λ end.
         OpenCause (F.files folder.old) name.now file
         (F.faults folder.old) (F.faults folder.new) end) }
     ensures kept { F.files folder.new ≡ F.files folder.old }
+    ensures asked { AsksOne (F.asked folder.old) (F.asked folder.new) name.now
+        (F.faults folder.old) }
     ensures counted { F.faults folder.old ≤ F.faults folder.new }
     ensures told_steady { IfErr result (λ end.
         AreTold (F.files folder.old) → end ≢ TopEnd.ReadFault → end ≢ TopEnd.OutOfMemory

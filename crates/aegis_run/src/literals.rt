@@ -34,11 +34,11 @@ fn item_literals(alloc: Global, item: &Item) -> Result<Option<Vec<u32>>, OutOfMe
     else {
         return Ok(None);
     };
-    let is_plain_main = !*private
+    let is_main = name.as_bytes() == b"main".as_slice()
         && matches!(result, Kind3::Int)
-        && name.as_bytes() == b"main".as_slice()
-        && params.as_slice().is_empty();
-    if !is_plain_main {
+        && params.len() == 0
+        && !*private;
+    if !is_main {
         return Ok(None);
     }
     body_literals(alloc, body.as_slice())

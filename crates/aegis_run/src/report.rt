@@ -1,6 +1,6 @@
 //! The line of an answer on the notes.
 ghost use Rattle.std.specs.Prelude.{◌≡◌, ◌+◌, ◌≤◌, ◌++◌, length, decimal};
-ghost use Rattle.aegis_run.specs.Report.{line_of, meaning_line, name_of, place_line, syntax_line, token_line, type_line};
+ghost use Rattle.aegis_run.specs.Report.{line_of, meaning_line, file_word, place_line, syntax_line, token_line, type_line};
 
 use crate::ends::{End, TopEnd};
 use aegis_words::File;
@@ -97,7 +97,7 @@ fn report_typing(error: TypeError) -> Line
 
 /// What a file is called.
 fn file_name(file: File) -> &'static str
-    ensures name { result.now ≡ name_of file }
+    ensures name { result.now ≡ file_word file }
     ensures short { length result.now ≤ 6 }
 {
     match file {

@@ -1,19 +1,21 @@
 //! The call that does all that the program does.
 ghost use Rattle.std.specs.Prelude.{◌≡◌, ◌≢◌, ◌≤◌, ◌↔◌, ℕ, List, [], false, IsTrue, None, IfSome, length};
 ghost use Rattle.aegis_edge.specs.Faults.{Rose};
+ghost use Rattle.aegis_edge.specs.Folder.{Asks};
 ghost use Rattle.aegis_edge.specs.Sink.{Appends, AppendsFront};
 ghost use Rattle.c_evaluator.specs.MachineStates.{end_of};
 ghost use Rattle.c_semantics.specs.Meaning.{Meaning};
 ghost use Rattle.c_semantics.specs.States.{Ended};
-ghost use Rattle.aegis_words.specs.CommandTable.{command_in};
-ghost use Rattle.aegis_run.specs.Answer.{Lacks, Exceeds, IsRefused, IsNotYet, IsScriptNotYet, RunMeans, MeanMeans, AreTold, IsOrFails, StartsRun, TellsMeaning, IsRetired};
+ghost use Rattle.aegis_words.specs.CommandTable.{command_in, steps_of};
+ghost use Rattle.aegis_words.specs.FileSteps.{askings_for};
+ghost use Rattle.aegis_run.specs.Answer.{StopsAt, IsSourceRefused, IsNotYet, IsScriptNotYet, RunMeans, MeanMeans, AreTold, IsOrFails, StartsRun, TellsMeaning, IsRetired};
 ghost use Rattle.aegis_run.specs.Opening.{IsWriteFault, Writes};
 ghost use Rattle.aegis_run.specs.Report.{line_of, status_of as status_of_answer};
 
 use crate::answer::answer_words;
 use crate::ends::{End, Finish, TopEnd, status_of};
 use crate::report::report_line;
-use aegis_edge::{Folder, Sink};
+use aegis_edge::{Folder, FolderError, Sink};
 use aegis_words::File;
 use c_meaning::MeanEnd;
 use c_reader::SyntaxError;
@@ -40,32 +42,32 @@ pub fn aegis<F: Folder, K: Sink, N: Sink>(
 
     // A file that the words name is missing, is too long, or failed.
     ensures no_file { (file : File) → result.end ≡ TopEnd.NoFile file
-        → IfSome (command_in words.now) (λ command. Lacks command (F.files folder.old) file
-        (F.faults folder.old) (F.faults folder.new)) }
+        → IfSome (command_in words.now) (λ command. StopsAt FolderError.Missing command
+        (F.files folder.old) file (F.faults folder.old) (F.faults folder.new)) }
     ensures too_long { (file : File) → result.end ≡ TopEnd.TooLong file
-        → IfSome (command_in words.now) (λ command. Exceeds command (F.files folder.old) file
-        (F.faults folder.old) (F.faults folder.new)) }
+        → IfSome (command_in words.now) (λ command. StopsAt FolderError.TooLong command
+        (F.files folder.old) file (F.faults folder.old) (F.faults folder.new)) }
     ensures read_fault { result.end ≡ TopEnd.ReadFault
         → Rose (F.faults folder.old) (F.faults folder.new) }
 
     // The source has no tokens, or these are no program, or it breaks a typing rule.
     ensures token { (error : TokenError) → result.end ≡ TopEnd.Token error
         → IfSome (command_in words.now) (λ command.
-        IsRefused (F.files folder.old) command (TopEnd.Token error)) }
+        IsSourceRefused (F.files folder.old) command (TopEnd.Token error)) }
     ensures token_where { (error : TokenError) → IfSome (command_in words.now) (λ command.
-        AreTold (F.files folder.old) → IsRefused (F.files folder.old) command (TopEnd.Token error)
+        AreTold (F.files folder.old) → IsSourceRefused (F.files folder.old) command (TopEnd.Token error)
         → IsOrFails (TopEnd.Token error) result.end) }
     ensures syntax { (error : SyntaxError) → result.end ≡ TopEnd.Syntax error
         → IfSome (command_in words.now) (λ command.
-        IsRefused (F.files folder.old) command (TopEnd.Syntax error)) }
+        IsSourceRefused (F.files folder.old) command (TopEnd.Syntax error)) }
     ensures syntax_where { (error : SyntaxError) → IfSome (command_in words.now) (λ command.
-        AreTold (F.files folder.old) → IsRefused (F.files folder.old) command (TopEnd.Syntax error)
+        AreTold (F.files folder.old) → IsSourceRefused (F.files folder.old) command (TopEnd.Syntax error)
         → IsOrFails (TopEnd.Syntax error) result.end) }
     ensures typing { (error : TypeError) → result.end ≡ TopEnd.Typing error
         → IfSome (command_in words.now) (λ command.
-        IsRefused (F.files folder.old) command (TopEnd.Typing error)) }
+        IsSourceRefused (F.files folder.old) command (TopEnd.Typing error)) }
     ensures typing_where { (error : TypeError) → IfSome (command_in words.now) (λ command.
-        AreTold (F.files folder.old) → IsRefused (F.files folder.old) command (TopEnd.Typing error)
+        AreTold (F.files folder.old) → IsSourceRefused (F.files folder.old) command (TopEnd.Typing error)
         → IsOrFails (TopEnd.Typing error) result.end) }
 
     // The source of a run is a program that is not run yet, or its script holds a byte. No other file is
@@ -100,6 +102,11 @@ pub fn aegis<F: Folder, K: Sink, N: Sink>(
         → result.end ≢ TopEnd.ReadFault → result.end ≢ TopEnd.OutOfMemory
         → F.faults folder.new ≡ F.faults folder.old }
     ensures steady { Writes result.end → F.faults folder.new ≡ F.faults folder.old }
+
+    // Where all files were read, the folder was asked for each of them, in order and once.
+    ensures asked { Writes result.end → IfSome (command_in words.now) (λ command.
+        Asks (F.asked folder.old) (F.asked folder.new)
+        (askings_for (F.faults folder.old) (steps_of command))) }
 
     // What out took of a run: all that the source means on the input, or a front of it.
     ensures ended { result.end ≡ TopEnd.Run End.Ended

@@ -7,7 +7,7 @@ use Rattle.aegis_words.specs.FileSteps.{limit_for, askings_for}
 use Rattle.aegis_words.specs.NumberWords.{is_number, bound_in, hex_bytes}
 use Rattle.aegis_words.specs.RunWordRow.{RunNames, run_row}
 use Rattle.aegis_words.specs.MeanWordRow.{MeanNames, mean_row}
-use Rattle.aegis_words.specs.CommandTable.{Run, Mean, rows, first_fitting, step_after, steps_of}
+use Rattle.aegis_words.specs.CommandTable.{Run, Mean, rows, first_fitting, steps_of}
 
 -- ---- words
 
@@ -111,19 +111,12 @@ other_word = refl
 limits : (limit_for Source ≡ 262144) × (limit_for Script ≡ 1048576) × (limit_for Input ≡ 65536)
 limits = (refl, refl, refl)
 
-run_files : steps_of (Run (names 1 key)) ((2 ∷ []) ∷ [] ∷ (1 ∷ []) ∷ [])
+run_files : steps_of (Run (names 1 key))
     ≡ record { file = Source; name = codes "hi.c" } ∷ record { file = Script; name = codes "s" } ∷ record { file = Input; name = codes "i" } ∷ []
 run_files = refl
 
-run_reads_no_more : step_after (Run (names 1 key)) ((2 ∷ []) ∷ [] ∷ (1 ∷ []) ∷ []) ≡ None
-run_reads_no_more = refl
-
-mean_files : steps_of (Mean (mean_names_with 1)) ((2 ∷ []) ∷ (1 ∷ []) ∷ [])
-    ≡ record { file = Source; name = codes "hi.c" } ∷ record { file = Input; name = codes "i" } ∷ []
+mean_files : steps_of (Mean (mean_names_with 1)) ≡ record { file = Source; name = codes "hi.c" } ∷ record { file = Input; name = codes "i" } ∷ []
 mean_files = refl
-
-mean_reads_no_more : step_after (Mean (mean_names_with 1)) ((2 ∷ []) ∷ (1 ∷ []) ∷ []) ≡ None
-mean_reads_no_more = refl
 
 askings_at_three : askings_for 3 (record { file = Script; name = 7 ∷ [] } ∷ []) ≡ record { name = 7 ∷ []; faults = 3 } ∷ []
 askings_at_three = refl

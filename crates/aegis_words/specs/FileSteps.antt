@@ -1,7 +1,7 @@
 -- Promise: which files a command reads one after another, and how long each may be.
-use Rattle.std.specs.Prelude.{ℕ, ◌≤◌, List, length, map, Option}
+use Rattle.std.specs.Prelude.{ℕ, List, map}
 use Rattle.aegis_num.specs.declared.limits.TheConstants.{MAX_SOURCE_BYTES, MAX_SCRIPT_BYTES, MAX_INPUT_BYTES}
-use Rattle.aegis_edge.specs.Folder.{Files, Asking, HoldsWhole}
+use Rattle.aegis_edge.specs.Folder.{Asking}
 use Rattle.aegis_words.specs.declared.file.File.{File}
 use Rattle.aegis_words.specs.declared.file.File.TheVariants.{Source, Script, Input}
 
@@ -15,11 +15,6 @@ abbrev pub limit_for : File → ℕ
 limit_for Source = MAX_SOURCE_BYTES
 limit_for Script = MAX_SCRIPT_BYTES
 limit_for Input = MAX_INPUT_BYTES
-
--- the file of a step is there with this text, where the folder tells its files, and is not too long
-pub record HasText (files : Option Files) (step : FileStep) (text : List ℕ) : Type 0 where
-  pub whole : HoldsWhole files step.name text
-  pub within : length text ≤ limit_for step.file
 
 -- how a folder is asked for the files of steps, one after another, while its count of faults stands still
 abbrev pub askings_for : ℕ → List FileStep → List Asking

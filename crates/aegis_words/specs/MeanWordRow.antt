@@ -22,8 +22,6 @@ mean_row (command ∷ source ∷ input ∷ turns ∷ []) =
     if bytes_eq command (codes "mean") then mean_names source input (bound_in turns) else None
 mean_row words = None
 
--- the file that a `mean` reads after these texts, the latest of them first
-abbrev pub mean_step_after : MeanNames → List (List ℕ) → Option FileStep
-mean_step_after names [] = Some (record { file = Source; name = names.source })
-mean_step_after names (source ∷ []) = Some (record { file = Input; name = names.input })
-mean_step_after names (input ∷ source ∷ earlier) = None
+-- the files that a `mean` reads, in order
+abbrev pub mean_steps : MeanNames → List FileStep
+mean_steps names = record { file = Source; name = names.source } ∷ record { file = Input; name = names.input } ∷ []

@@ -28,9 +28,10 @@ run_row (command ∷ source ∷ script ∷ input ∷ fuel ∷ key ∷ nonce ∷ 
     else None
 run_row words = None
 
--- the file that a run reads after these texts, the latest of them first
-abbrev pub run_step_after : RunNames → List (List ℕ) → Option FileStep
-run_step_after names [] = Some (record { file = Source; name = names.source })
-run_step_after names (source ∷ []) = Some (record { file = Script; name = names.script })
-run_step_after names (script ∷ source ∷ []) = Some (record { file = Input; name = names.input })
-run_step_after names (input ∷ script ∷ source ∷ earlier) = None
+-- the files that a run reads, in order
+abbrev pub run_steps : RunNames → List FileStep
+run_steps names =
+    record { file = Source; name = names.source }
+    ∷ record { file = Script; name = names.script }
+    ∷ record { file = Input; name = names.input }
+    ∷ []

@@ -5,12 +5,12 @@ use Rattle.aegis_words.specs.declared.file.File.TheVariants.{Source, Script}
 use Rattle.aegis_run.specs.declared.ends.TopEnd.{TopEnd}
 use Rattle.aegis_run.specs.declared.ends.TopEnd.TheVariants.{Token, Syntax, Typing, NotYet}
 use Rattle.aegis_words.specs.CommandTable.{Command, command_in}
-use Rattle.aegis_run.specs.Answer.{AreTold, IsRefused, IsNotYet, IsScriptNotYet, RunMeans, MeanMeans, Cause, Sends, IsOrFails, StartsRun, TellsMeaning}
+use Rattle.aegis_run.specs.Answer.{AreTold, IsSourceRefused, IsNotYet, IsScriptNotYet, RunMeans, MeanMeans, Cause, Sends, IsOrFails, StartsRun, TellsMeaning}
 use Rattle.aegis_run.proofs.AnswerLemmas.{refuses_source, not_yet, script_not_yet, starts_run, tells_meaning, sends_nothing}
 use Rattle.aegis_run.proofs.top.aegis.Goals as goal
 
 where_refused : (row : Option Command) (files : Option Files) (before now : ℕ) (end expected : TopEnd) → Cause row files before now end
-    → IfSome row (λ command. AreTold files → IsRefused files command expected → IsOrFails expected end)
+    → IfSome row (λ command. AreTold files → IsSourceRefused files command expected → IsOrFails expected end)
 where_refused None files before now end expected cause = tt
 where_refused (Some command) files before now end expected cause = λ told refused. refuses_source files command before now expected end told refused cause
 
