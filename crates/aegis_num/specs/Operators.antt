@@ -1,4 +1,4 @@
--- The operators of the source language on words, which are numbers below 2 ^ 32 (ISO/IEC 9899, sections 6.5.3 and 6.5.5 to 6.5.12).
+-- Promise: the operators of the source language on words, which are numbers below 2 ^ 32 (ISO/IEC 9899, sections 6.5.3 and 6.5.5 to 6.5.12).
 -- The types of the operands choose the row: a name that ends in S reads words as int, and one that ends in U as unsigned.
 use Rattle.std.specs.Prelude.{ℕ, ◌+◌, ◌-◌, ◌*◌, ◌/◌, ◌%◌, ◌^◌, Bool, true, false, ◌==◌, ◌&&◌, not, nat_lt, nat_le, cond, bit_and, bit_or, bit_xor, ℤ}
 use Rattle.std.specs.Int.{w32, cast_signed, cast_unsigned, int_shr}
