@@ -1,0 +1,4 @@
+mod FileLaws
+mod Headers
+mod Same
+mod Words

@@ -1,0 +1,4 @@
+pub mod ImageFaults
+pub mod ImageLaws
+pub mod ImageTable
+pub mod ReadParts
