@@ -1,4 +1,5 @@
 mod EdgeExamples
 mod Examples
 mod Fronts
+mod NeverFailsExamples
 mod Pieces

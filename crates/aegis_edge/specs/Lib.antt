@@ -5,4 +5,5 @@ pub mod HostSink
 pub mod MemFile
 pub mod MemFolder
 pub mod MemSink
+pub mod NeverFails
 pub mod Sink

@@ -8,6 +8,7 @@ mod host_folder;
 mod host_sink;
 mod mem_folder;
 mod mem_sink;
+mod never_fails;
 mod sink;
 
 pub use folder::{Folder, FolderError};
@@ -15,6 +16,7 @@ pub use host_folder::HostFolder;
 pub use host_sink::HostSink;
 pub use mem_folder::MemFolder;
 pub use mem_sink::MemSink;
+pub use never_fails::NeverFails;
 pub use sink::{Sink, SinkFault};
 
 #[cfg(test)]

@@ -1,19 +1,20 @@
 -- What is read is an image's file, and the file of an image has no fault and no other image.
-use Rattle.std.proofs.Common.{◌≡◌, ℕ, ◌+◌, ◌*◌, ◌%◌, ◌^◌, ◌<◌, ◌≤◌, Bool, true, false, List, [], ◌∷◌, ◌++◌, length, take, drop, map, Option, Some, None, Result, refl, sym, ap, ◌∙◌, arith}
+use Rattle.std.proofs.Common.{◌≡◌, ℕ, zero, suc, ◌+◌, ◌*◌, ◌%◌, ◌^◌, ◌<◌, ◌≤◌, Bool, true, false, cond, ltb, List, [], ◌∷◌, ◌++◌, length, take, drop, map, Option, Some, None, Result, refl, sym, ap, ◌∙◌, arith}
 use Rattle.std.specs.Int.{w32, to_be_bytes}
 use Rattle.std.specs.List.{flat_map, AllByRecursion}
-use Rattle.std.proofs.lemmas.Bool.{le-ltb, le-leb, lt-ltb, eq-eqb, and_from}
-use Rattle.std.proofs.lemmas.List.{length-append, take_at, drop_at}
+use Rattle.std.proofs.lemmas.Bool.{le-ltb, le-leb, lt-ltb, eq-eqb, and_from, ltb-true, ltb-false, leb-true, eqb-true, and_parts}
+use Rattle.std.proofs.lemmas.List.{length-append, length-drop, take_at, drop_at}
 use Rattle.regions.specs.declared.layout.Layout.{Layout}
 use Rattle.image_file.specs.declared.error.ImageError.{ImageError}
+use Rattle.image_file.specs.declared.error.ImageError.TheVariants as errors
 use Rattle.image_file.specs.declared.image.Image.{Image}
-use Rattle.image_file.specs.ImageTable.{Header, fields, header_of, header_bytes, static_bytes, bytes_of, HoldsWords}
+use Rattle.image_file.specs.ImageTable.{Header, Field, fields, header_of, header_bytes, static_bytes, bytes_of, HoldsWords}
 use Rattle.image_file.specs.ImageFaults.{number_at, header_in, field_fault, file_length, blocks_fault, first_of, first_fault, FindsUnlessMemory}
-use Rattle.image_file.specs.ImageLaws.{ImagesHaveOneFile, FilesOfImagesAreFaultless}
-use Rattle.image_file.specs.ReadParts.{fault_among, HasNumbers}
+use Rattle.image_file.specs.ImageLaws.{ImagesHaveOneFile, FilesOfImagesAreFaultless, FaultlessFilesAreOfImages}
+use Rattle.image_file.specs.ReadParts.{fault_among, HasNumbers, words_in}
 use Rattle.image_file.proofs.Headers.{FitsFields, same-header, header-again, header-back, AreFine, first_of-fine, first_of-append, or_else}
 use Rattle.image_file.proofs.Same.{numbers_of, same-image}
-use Rattle.image_file.proofs.Words.{AreBytes, length-word_bytes, one-word_bytes}
+use Rattle.image_file.proofs.Words.{AreBytes, AreBytes-drop, TakenApart, taken_apart, length-word_bytes, one-word_bytes}
 
 -- ---- images
 
@@ -39,18 +40,33 @@ length-bytes_of image = omega (arith, length-append image.constants (flat_map (t
 image-fine : (image : Image) → AreFine (bytes_of image) (fields (header_of image))
 image-fine image =
     let whole = length-bytes_of image in
-    let code : 0 < image.layout.code = omega (arith, image.entry_inside) in
-    (
+    let code : 0 < image.layout.code = omega (arith, image.entry_inside) in (
       (omega arith, refl),
-      ((omega arith, refl),
-      ((omega arith, le-leb _ _ (omega (arith, image.layout.data_fits))),
-      ((omega arith, le-leb _ _ (omega (arith, image.layout.data_fits))),
-      ((omega arith, le-leb _ _ (omega (arith, image.layout.data_fits))),
-      ((omega arith, and_from _ _ (le-leb _ _ image.layout.data_fits) (lt-ltb _ _ code)),
-      ((omega arith, le-leb _ _ image.layout.log_fits),
-      ((omega arith, and_from _ _ (le-leb _ _ image.layout.shared_fits) (eq-eqb _ _ image.shared_words)),
-      ((omega arith, lt-ltb _ _ image.entry_inside),
-      tt))))))))
+      (
+        (omega arith, refl),
+        (
+          (omega arith, le-leb _ _ (omega (arith, image.layout.data_fits))),
+          (
+            (omega arith, le-leb _ _ (omega (arith, image.layout.data_fits))),
+            (
+              (omega arith, le-leb _ _ (omega (arith, image.layout.data_fits))),
+              (
+                (omega arith, and_from _ _ (le-leb _ _ image.layout.data_fits) (lt-ltb _ _ code)),
+                (
+                  (omega arith, le-leb _ _ image.layout.log_fits),
+                  (
+                    (omega arith, and_from _ _ (le-leb _ _ image.layout.shared_fits) (eq-eqb _ _ image.shared_words)),
+                    (
+                      (omega arith, lt-ltb _ _ image.entry_inside),
+                      tt,
+                    ),
+                  ),
+                ),
+              ),
+            ),
+          ),
+        ),
+      ),
     )
 
 -- the fault of a file, by the header that is in it
@@ -65,7 +81,7 @@ unfolding fault_by
 files_of_images_are_faultless image words =
     ap (fault_by (bytes_of image)) (header_in-bytes_of image)
     ∙ first_of-fine (bytes_of image) (fields (header_of image)) (blocks_fault (bytes_of image) (file_length (header_of image))) (image-fine image)
-        (blocks-fine (bytes_of image) (file_length (header_of image)) (length-bytes_of image))
+    (blocks-fine (bytes_of image) (file_length (header_of image)) (length-bytes_of image))
 
 pub images_have_one_file : ImagesHaveOneFile
 images_have_one_file image other words words' e =
@@ -128,3 +144,102 @@ pub image-read : (bytes : List ℕ) (image : Image) → AreBytes bytes → 36 �
     → HasNumbers image.layout (header_in bytes) → image.entry ≡ number_at bytes 32 → static_bytes image ≡ drop 36 bytes → bytes ≡ bytes_of image
 image-read bytes image fit long magic version has entry statics =
     header-back bytes long fit ∙ ap (λ (h : Header). header_bytes h ++ drop 36 bytes) (sym (header_of-in bytes image magic version has entry)) ∙ ap (λ (l : List ℕ). header_bytes (header_of image) ++ l) (sym statics)
+
+-- ---- files without a fault
+
+cond-none : (short allowed : Bool) (x y : ImageError) → cond short (Some x) (cond allowed None (Some y)) ≡ None → (short ≡ false) × (allowed ≡ true)
+cond-none true allowed x y e = absurd (cc)
+cond-none false true x y e = (refl, refl)
+cond-none false false x y e = absurd (cc)
+
+cond-neither : (short long : Bool) (x y : ImageError) → cond short (Some x) (cond long (Some y) None) ≡ None → (short ≡ false) × (long ≡ false)
+cond-neither true long x y e = absurd (cc)
+cond-neither false true x y e = absurd (cc)
+cond-neither false false x y e = (refl, refl)
+
+first_of-none : (fault : Option ImageError) (later : List (Option ImageError)) → first_of (fault ∷ later) ≡ None → (fault ≡ None) × (first_of later ≡ None)
+first_of-none None later e = (refl, e)
+first_of-none (Some fault) later e = absurd (cc)
+
+field-whole : (bytes : List ℕ) (f : Field) → field_fault bytes f ≡ None → (f.at + 4 ≤ length bytes) × (f.allowed ≡ true)
+field-whole bytes f e =
+    let tests = cond-none (ltb (length bytes) (f.at + 4)) f.allowed (errors.Short (length bytes)) f.refusal e in
+    (ltb-false _ _ tests.0, tests.1)
+
+none-fine : (bytes : List ℕ) (fs : List Field) (last : Option ImageError) → first_of (map (field_fault bytes) fs ++ last ∷ []) ≡ None → AreFine bytes fs × (last ≡ None)
+none-fine bytes [] last e = (tt, (first_of-none last [] e).0)
+none-fine bytes (f ∷ fs) last e =
+    let parts = first_of-none (field_fault bytes f) (map (field_fault bytes) fs ++ last ∷ []) e in
+    let rest = none-fine bytes fs last parts.1 in
+    ((field-whole bytes f parts.0, rest.0), rest.1)
+
+blocks-whole : (bytes : List ℕ) (whole : ℕ) → blocks_fault bytes whole ≡ None → length bytes ≡ whole
+blocks-whole bytes whole e =
+    let tests = cond-neither (ltb (length bytes) whole) (ltb whole (length bytes)) (errors.Short (length bytes)) (errors.Trailing whole) e in
+    omega (arith, ltb-false _ _ tests.0, ltb-false _ _ tests.1)
+
+AreBytes-each : (bytes : List ℕ) → AllByRecursion (λ byte. byte < 2 ^ 8) bytes → AreBytes bytes
+AreBytes-each [] all i = omega arith
+AreBytes-each (byte ∷ bytes) all zero = all.0
+AreBytes-each (byte ∷ bytes) all (suc i) = AreBytes-each bytes all.1 i
+
+-- a header whose numbers may all stand in their fields
+record IsAllowed (h : Header) : Type 0 where
+  magic : h.magic ≡ 0x41454753
+  version : h.version ≡ 1
+  data_blocks : h.verified + h.private + h.constants + h.code ≤ 6561
+  log : h.log ≤ 1024
+  shared : h.shared ≤ 32768
+  words : h.shared % 4 ≡ 0
+  entry : h.entry < 16 * h.code
+
+fine-allowed : (bytes : List ℕ) (h : Header) → AreFine bytes (fields h) → IsAllowed h
+fine-allowed bytes h fine = record {
+  magic = eqb-true _ _ fine.0.1;
+  version = eqb-true _ _ fine.1.0.1;
+  data_blocks = leb-true _ _ (and_parts _ _ fine.1.1.1.1.1.0.1).0;
+  log = leb-true _ _ fine.1.1.1.1.1.1.0.1;
+  shared = leb-true _ _ (and_parts _ _ fine.1.1.1.1.1.1.1.0.1).0;
+  words = eqb-true _ _ (and_parts _ _ fine.1.1.1.1.1.1.1.0.1).1;
+  entry = ltb-true _ _ fine.1.1.1.1.1.1.1.1.0.1;
+}
+
+-- the image of a header and its blocks
+image_with : (h : Header) (blocks : List ℕ) → IsAllowed h → TakenApart blocks (take (64 * h.constants) blocks) (words_in (drop (64 * h.constants) blocks)) h.constants h.code → Image
+image_with h blocks allowed apart = record {
+  layout = record {
+    verified = h.verified;
+    private = h.private;
+    constants = h.constants;
+    code = h.code;
+    log = h.log;
+    shared = h.shared;
+    data_fits = allowed.data_blocks;
+    log_fits = allowed.log;
+    shared_fits = allowed.shared;
+  };
+  entry = h.entry;
+  constants = take (64 * h.constants) blocks;
+  code = words_in (drop (64 * h.constants) blocks);
+  shared_words = allowed.words;
+  entry_inside = allowed.entry;
+  constants_whole = apart.constants_whole;
+  code_whole = apart.code_whole;
+}
+
+pub faultless_files_are_of_images : FaultlessFilesAreOfImages
+unfolding image_with
+faultless_files_are_of_images bytes each e =
+    let h : Header = header_in bytes in
+    let blocks : List ℕ = drop 36 bytes in
+    let parts = none-fine bytes (fields h) (blocks_fault bytes (file_length h)) e in
+    let allowed : IsAllowed h = fine-allowed bytes h parts.0 in
+    let whole : length bytes ≡ 36 + 64 * (h.constants + h.code) = blocks-whole bytes (file_length h) parts.1 in
+    let fit : AreBytes bytes = AreBytes-each bytes each in
+    let apart = taken_apart blocks h.constants h.code (omega (arith, length-drop 36 bytes)) (AreBytes-drop 36 bytes fit) in
+    let image : Image = image_with h blocks allowed apart in
+    record {
+      image = image;
+      words = record { constants = apart.constants_below; code = apart.code_below };
+      file = image-read bytes image fit (omega arith) allowed.magic allowed.version (record { verified = refl; private = refl; constants = refl; code = refl; log = refl; shared = refl }) refl apart.bytes;
+    }

@@ -31,8 +31,8 @@ header-chain h r0 r1 r2 r3 r4 r5 r6 r7 r8 r9 e0 e1 e2 e3 e4 e5 e6 e7 e8 =
 pub header-back : (bytes : List ℕ) → 36 ≤ length bytes → AreBytes bytes → bytes ≡ header_bytes (header_in bytes) ++ drop 36 bytes
 header-back bytes long fit =
     header-chain (header_in bytes) bytes (drop 4 bytes) (drop 8 bytes) (drop 12 bytes) (drop 16 bytes) (drop 20 bytes) (drop 24 bytes) (drop 28 bytes) (drop 32 bytes) (drop 36 bytes)
-        (number-back bytes 0 (omega arith) fit) (number-back bytes 4 (omega arith) fit) (number-back bytes 8 (omega arith) fit) (number-back bytes 12 (omega arith) fit)
-        (number-back bytes 16 (omega arith) fit) (number-back bytes 20 (omega arith) fit) (number-back bytes 24 (omega arith) fit) (number-back bytes 28 (omega arith) fit) (number-back bytes 32 (omega arith) fit)
+    (number-back bytes 0 (omega arith) fit) (number-back bytes 4 (omega arith) fit) (number-back bytes 8 (omega arith) fit) (number-back bytes 12 (omega arith) fit)
+    (number-back bytes 16 (omega arith) fit) (number-back bytes 20 (omega arith) fit) (number-back bytes 24 (omega arith) fit) (number-back bytes 28 (omega arith) fit) (number-back bytes 32 (omega arith) fit)
 
 -- the nine numbers of a header
 abbrev Nine : Type 0
@@ -67,9 +67,9 @@ pub record FitsFields (h : Header) : Type 0 where
 pub header-again : (h : Header) (rest : List ℕ) → FitsFields h → header_in (header_bytes h ++ rest) ≡ h
 header-again h rest fit =
     same-header (header_in (header_bytes h ++ rest)) h
-        (from_be_bytes-to_be_bytes_4 h.magic fit.magic) (from_be_bytes-to_be_bytes_4 h.version fit.version) (from_be_bytes-to_be_bytes_4 h.verified fit.verified)
-        (from_be_bytes-to_be_bytes_4 h.private fit.private) (from_be_bytes-to_be_bytes_4 h.constants fit.constants) (from_be_bytes-to_be_bytes_4 h.code fit.code)
-        (from_be_bytes-to_be_bytes_4 h.log fit.log) (from_be_bytes-to_be_bytes_4 h.shared fit.shared) (from_be_bytes-to_be_bytes_4 h.entry fit.entry)
+    (from_be_bytes-to_be_bytes_4 h.magic fit.magic) (from_be_bytes-to_be_bytes_4 h.version fit.version) (from_be_bytes-to_be_bytes_4 h.verified fit.verified)
+    (from_be_bytes-to_be_bytes_4 h.private fit.private) (from_be_bytes-to_be_bytes_4 h.constants fit.constants) (from_be_bytes-to_be_bytes_4 h.code fit.code)
+    (from_be_bytes-to_be_bytes_4 h.log fit.log) (from_be_bytes-to_be_bytes_4 h.shared fit.shared) (from_be_bytes-to_be_bytes_4 h.entry fit.entry)
 
 -- ---- faults
 

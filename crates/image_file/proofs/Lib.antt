@@ -1,3 +1,4 @@
+mod Examples
 mod FileLaws
 mod Headers
 mod Same

@@ -23,8 +23,15 @@ SharedFits n = n.5 ≤ MAX_SHARED_BYTES
 
 abbrev layout_with : (n : Numbers) → DataFits n → LogFits n → SharedFits n → Layout
 layout_with n data_fits log_fits shared_fits = record {
-  verified = n.0; private = n.1; constants = n.2; code = n.3; log = n.4; shared = n.5;
-  data_fits = data_fits; log_fits = log_fits; shared_fits = shared_fits;
+  verified = n.0;
+  private = n.1;
+  constants = n.2;
+  code = n.3;
+  log = n.4;
+  shared = n.5;
+  data_fits = data_fits;
+  log_fits = log_fits;
+  shared_fits = shared_fits;
 }
 
 abbrev pub numbers_of : Layout → Numbers
@@ -59,8 +66,14 @@ CodeWhole p = length p.3 ≡ BLOCK_WORDS * p.0.code
 
 abbrev image_with : (p : Parts) → SharedWords p → EntryInside p → ConstantsWhole p → CodeWhole p → Image
 image_with p shared entry constants code = record {
-  layout = p.0; entry = p.1; constants = p.2; code = p.3;
-  shared_words = shared; entry_inside = entry; constants_whole = constants; code_whole = code;
+  layout = p.0;
+  entry = p.1;
+  constants = p.2;
+  code = p.3;
+  shared_words = shared;
+  entry_inside = entry;
+  constants_whole = constants;
+  code_whole = code;
 }
 
 one-image_with : (p : Parts) (a : SharedWords p) (b : EntryInside p) (c : ConstantsWhole p) (d : CodeWhole p) (a' : SharedWords p) (b' : EntryInside p) (c' : ConstantsWhole p) (d' : CodeWhole p)

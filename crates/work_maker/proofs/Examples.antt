@@ -1,5 +1,5 @@
 -- Worked examples of made sources. The texts are written out by a script that knows nothing of these definitions.
-use Rattle.std.proofs.Common.{◌≡◌, ℕ, List, [], ◌∷◌, length, get_or, refl, ap}
+use Rattle.std.proofs.Common.{◌≡◌, ℕ, List, [], ◌∷◌, length, get_or, refl, ap, arith}
 use Rattle.std.specs.Fmt.{digits}
 use Rattle.work_maker.specs.MadeSource.{function_line, call_line, made_source}
 
@@ -56,15 +56,15 @@ call_line-last : call_line 47 ≡
 unfolding digits
 call_line-last = refl
 
-eight_not_nine : 56 ≡ 57 → ⊥
-eight_not_nine same = cc
+eight_not_nine : ◌≡◌ {A = ℕ} 56 57 → ⊥
+eight_not_nine same = omega arith
 
 call_line-not_next : call_line 8 ≡ 115 ∷ 61 ∷ 102 ∷ 57 ∷ 40 ∷ 115 ∷ 43 ∷ 105 ∷ 41 ∷ 59 ∷ 10 ∷ [] → ⊥
 unfolding digits
 call_line-not_next same = eight_not_nine (ap (λ (l : List ℕ). get_or l 3 0) same)
 
-lengths_differ : 190 ≡ 273 → ⊥
-lengths_differ same = cc
+lengths_differ : ◌≡◌ {A = ℕ} 190 273 → ⊥
+lengths_differ same = omega arith
 
 made_source-not_one_more : length (made_source 1) ≡ 273 → ⊥
 unfolding digits

@@ -20,7 +20,7 @@ returns-in_err-header-clause-fault c =
 pub returns-in_err-blocks-clause-only : goal.returns-in_err-blocks-clause-only
 returns-in_err-blocks-clause-only c =
     only-at_fault c.args.bytes.now c.in_err-blocks.field-0.0 c.from_residual-in_err-blocks.result
-        (fault-in_blocks c.args.bytes.now c.in_ok-header.header.layout _ c.in_ok-header.ensures.fault c.in_err-blocks.ensures.fault c.in_ok-header.ensures.layout)
+    (fault-in_blocks c.args.bytes.now c.in_ok-header.header.layout _ c.in_ok-header.ensures.fault c.in_err-blocks.ensures.fault c.in_ok-header.ensures.layout)
 
 pub returns-in_err-blocks-clause-fault : goal.returns-in_err-blocks-clause-fault
 returns-in_err-blocks-clause-fault c =
@@ -34,8 +34,8 @@ image_of-requires c = omega (arith, ap length c.in_ok-blocks.ensures.blocks, len
 read : (c : goal.In_ok-image) → c.args.bytes.now ≡ bytes_of c.in_ok-image.image
 read c =
     image-read c.args.bytes.now c.in_ok-image.image (λ i. omega (arith, c.type_inv.bytes i)) (omega (arith, c.in_ok-blocks.ensures.length)) c.in_ok-header.ensures.magic c.in_ok-header.ensures.version
-        (subst (λ (layout : Layout). HasNumbers layout (header_in c.args.bytes.now)) (sym c.in_ok-image.ensures.layout) c.in_ok-header.ensures.layout)
-        (c.in_ok-image.ensures.entry ∙ c.in_ok-header.ensures.entry) (c.in_ok-image.ensures.blocks ∙ c.in_ok-blocks.ensures.blocks)
+    (subst (λ (layout : Layout). HasNumbers layout (header_in c.args.bytes.now)) (sym c.in_ok-image.ensures.layout) c.in_ok-header.ensures.layout)
+    (c.in_ok-image.ensures.entry ∙ c.in_ok-header.ensures.entry) (c.in_ok-image.ensures.blocks ∙ c.in_ok-blocks.ensures.blocks)
 
 pub returns-clause-read : goal.returns-clause-read
 returns-clause-read c = read c
