@@ -16,7 +16,7 @@ use aegis_num::OutOfMemory;
 use regions::{BLOCK_BYTES, Layout, MAX_DATA_BLOCKS, MAX_LOG_BLOCKS, MAX_SHARED_BYTES};
 use std::alloc::Global;
 
-/// How many data blocks there are of each class: together no more than there may be, and at least one of code.
+/// How many data blocks there are of each class, together no more than there may be.
 #[derive(Clone, Copy)]
 struct DataBlocks {
     verified: u32,
