@@ -1,2 +1,4 @@
+pub mod FileReadingLemmas
 mod NumberWordLemmas
+mod ReadingExamples
 mod WordExamples

@@ -5,9 +5,9 @@ use Rattle.hex.specs.Hex.{decode_pairs}
 use Rattle.aegis_words.specs.declared.file.File.TheVariants.{Source, Script, Input}
 use Rattle.aegis_words.specs.FileSteps.{limit_for, askings_for}
 use Rattle.aegis_words.specs.NumberWords.{is_number, bound_in, hex_bytes}
-use Rattle.aegis_words.specs.RunWordRow.{RunNames, run_row}
-use Rattle.aegis_words.specs.MeanWordRow.{MeanNames, mean_row}
-use Rattle.aegis_words.specs.CommandTable.{Run, Mean, rows, first_fitting, steps_of}
+use Rattle.aegis_words.specs.RunWordRow.{RunNames, run_row, run_steps}
+use Rattle.aegis_words.specs.MeanWordRow.{MeanNames, mean_row, mean_steps}
+use Rattle.aegis_words.specs.CommandTable.{Run, Mean, rows, first_fitting, step_after}
 
 -- ---- words
 
@@ -111,12 +111,24 @@ other_word = refl
 limits : (limit_for Source ≡ 262144) × (limit_for Script ≡ 1048576) × (limit_for Input ≡ 65536)
 limits = (refl, refl, refl)
 
-run_files : steps_of (Run (names 1 key))
+run_files : run_steps (names 1 key)
     ≡ record { file = Source; name = codes "hi.c" } ∷ record { file = Script; name = codes "s" } ∷ record { file = Input; name = codes "i" } ∷ []
 run_files = refl
 
-mean_files : steps_of (Mean (mean_names_with 1)) ≡ record { file = Source; name = codes "hi.c" } ∷ record { file = Input; name = codes "i" } ∷ []
+run_after_source : step_after (Run (names 1 key)) ([] ∷ []) ≡ Some (record { file = Script; name = codes "s" })
+run_after_source = refl
+
+run_after_all : step_after (Run (names 1 key)) ([] ∷ [] ∷ [] ∷ []) ≡ None
+run_after_all = refl
+
+mean_files : mean_steps (mean_names_with 1) ≡ record { file = Source; name = codes "hi.c" } ∷ record { file = Input; name = codes "i" } ∷ []
 mean_files = refl
+
+mean_after_source : step_after (Mean (mean_names_with 1)) ([] ∷ []) ≡ Some (record { file = Input; name = codes "i" })
+mean_after_source = refl
+
+mean_after_all : step_after (Mean (mean_names_with 1)) ([] ∷ [] ∷ []) ≡ None
+mean_after_all = refl
 
 askings_at_three : askings_for 3 (record { file = Script; name = 7 ∷ [] } ∷ []) ≡ record { name = 7 ∷ []; faults = 3 } ∷ []
 askings_at_three = refl

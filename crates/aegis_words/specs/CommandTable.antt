@@ -2,7 +2,7 @@
 use Rattle.std.specs.Prelude.{ℕ, List, [], ◌∷◌, map, String, string_bytes, Option, None, Some}
 use Rattle.std.specs.declared.alloc.Global.{Global}
 use Rattle.std.specs.Option.{option_map}
-use Rattle.aegis_words.specs.FileSteps.{FileStep}
+use Rattle.aegis_words.specs.FileSteps.{NextStep, step_in}
 use Rattle.aegis_words.specs.RunWordRow.{RunNames, run_row, run_steps}
 use Rattle.aegis_words.specs.MeanWordRow.{MeanNames, mean_row, mean_steps}
 
@@ -33,7 +33,7 @@ first_fitting (row ∷ later) words = command_or (row words) (first_fitting late
 abbrev pub command_in : List (String Global) → Option Command
 command_in words = first_fitting rows (map string_bytes words)
 
--- the files that a command reads, in order
-abbrev pub steps_of : Command → List FileStep
-steps_of (Run names) = run_steps names
-steps_of (Mean names) = mean_steps names
+-- the file that a command reads next
+abbrev pub step_after : Command → NextStep
+step_after (Run names) = step_in (run_steps names)
+step_after (Mean names) = step_in (mean_steps names)

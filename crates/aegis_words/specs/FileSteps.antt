@@ -1,5 +1,5 @@
 -- Promise: which files a command reads one after another, and how long each may be.
-use Rattle.std.specs.Prelude.{ℕ, List, map}
+use Rattle.std.specs.Prelude.{ℕ, List, [], ◌∷◌, map, Option, None, Some}
 use Rattle.aegis_num.specs.declared.limits.TheConstants.{MAX_SOURCE_BYTES, MAX_SCRIPT_BYTES, MAX_INPUT_BYTES}
 use Rattle.aegis_edge.specs.Folder.{Asking}
 use Rattle.aegis_words.specs.declared.file.File.{File}
@@ -19,3 +19,13 @@ limit_for Input = MAX_INPUT_BYTES
 -- how a folder is asked for the files of steps, one after another, while its count of faults stands still
 abbrev pub askings_for : ℕ → List FileStep → List Asking
 askings_for faults steps = map (λ step. record { name = step.name; faults = faults }) steps
+
+-- which file a command reads next, once these texts were read, the latest of them first; none where it has read them all
+abbrev pub NextStep : Type 0
+NextStep = List (List ℕ) → Option FileStep
+
+-- the next of these files, where the texts have no part in the choice
+abbrev pub step_in : List FileStep → NextStep
+step_in [] texts = None
+step_in (step ∷ later) [] = Some step
+step_in (step ∷ later) (text ∷ earlier) = step_in later earlier

@@ -1,4 +1,5 @@
 pub mod CommandTable
+pub mod FileReading
 pub mod FileSteps
 pub mod KeptWords
 pub mod MeanWordRow
