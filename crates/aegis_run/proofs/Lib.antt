@@ -1,10 +1,13 @@
-mod AnswerLemmas
+mod CauseLemmas
 mod CodeLemmas
+mod CommandLemmas
+mod ContractExamples
 mod Examples
 mod LengthLemmas
 mod LiteralLemmas
 mod MachineLemmas
 mod MeaningLemmas
-mod OpeningLemmas
+mod ReadingLemmas
 mod SourceLemmas
+mod SyntaxLemmas
 mod TypingLemmas

@@ -19,7 +19,7 @@ use Rattle.c_types.specs.declared.error.TypeError.TheVariants as type
 use Rattle.c_types.specs.Checked.{IsTyped, IsRefusedByTypes}
 use Rattle.aegis_run.specs.declared.ends.TopEnd.{TopEnd}
 use Rattle.aegis_run.specs.declared.ends.TopEnd.TheVariants.{Run, Mean, Usage, TooLong, Token as TokenEnd, Syntax, Typing, NotYet, NoFile, ReadFault, WriteFault, OutOfMemory}
-use Rattle.aegis_run.specs.Answer.{SourceFault, HasTypeFault}
+use Rattle.aegis_run.specs.SourceTexts.{SourceFault, HasTypeFault}
 use Rattle.aegis_run.proofs.TypingLemmas.{typed_refused, one_type_error}
 
 -- the program of a text is one

@@ -1,5 +1,9 @@
-pub mod Answer
+pub mod Answers
+pub mod Causes
 pub mod Code
 pub mod Literals
-pub mod Opening
+pub mod MeanCommand
+pub mod Reading
 pub mod Report
+pub mod RunCommand
+pub mod SourceTexts

@@ -1,5 +1,6 @@
 -- Promise: the exit status of an answer, and its line on the notes.
-use Rattle.std.specs.Prelude.{ℕ, Bool, true, false, List, ◌++◌, codes, decimal}
+use Rattle.std.specs.Prelude.{◌≡◌, ℕ, Bool, true, false, List, ◌++◌, Option, None, Some, codes, decimal}
+use Rattle.aegis_edge.specs.Sink.{Appends, AppendsFront}
 use Rattle.aegis_words.specs.declared.file.File.{File}
 use Rattle.aegis_words.specs.declared.file.File.TheVariants.{Source, Script, Input}
 use Rattle.aegis_run.specs.declared.ends.End.TheVariants as run
@@ -83,18 +84,24 @@ meaning_line (mean.Index at) = place_line (codes "index token ") at (codes "\n")
 meaning_line (mean.Divide at) = place_line (codes "divide token ") at (codes "\n")
 meaning_line mean.Turns = codes "turns\n"
 
--- the line of an answer, and of a run after so many instructions
-abbrev pub line_of : TopEnd → ℕ → List ℕ
-line_of (Run run.Ended) retired = codes "ended retired " ++ decimal retired ++ codes " events 0\n"
-line_of (Run run.WriteFault) retired = codes "write fault\n"
-line_of (Mean end) retired = meaning_line end
-line_of Usage retired = codes "usage: run SOURCE SCRIPT INPUT FUEL KEY NONCE, mean SOURCE INPUT TURNS\n"
-line_of (TooLong file) retired = codes "too long: " ++ file_word file ++ codes "\n"
-line_of (Token error) retired = token_line error
-line_of (Syntax error) retired = syntax_line error
-line_of (Typing error) retired = type_line error
-line_of (NotYet file) retired = codes "not yet " ++ file_word file ++ codes "\n"
-line_of (NoFile file) retired = codes "no file: " ++ file_word file ++ codes "\n"
-line_of ReadFault retired = codes "read fault\n"
-line_of WriteFault retired = codes "write fault\n"
-line_of OutOfMemory retired = codes "out of memory\n"
+-- the line of an answer, and of a run after so many instructions, where the answer has one
+abbrev pub line_of : TopEnd → ℕ → Option (List ℕ)
+line_of (Run run.Ended) retired = Some (codes "ended retired " ++ decimal retired ++ codes " events 0\n")
+line_of (Run run.WriteFault) retired = Some (codes "write fault\n")
+line_of (Mean end) retired = Some (meaning_line end)
+line_of Usage retired = Some (codes "usage: run SOURCE SCRIPT INPUT FUEL KEY NONCE, mean SOURCE INPUT TURNS\n")
+line_of (TooLong file) retired = Some (codes "too long: " ++ file_word file ++ codes "\n")
+line_of (Token error) retired = Some (token_line error)
+line_of (Syntax error) retired = Some (syntax_line error)
+line_of (Typing error) retired = Some (type_line error)
+line_of (NotYet file) retired = Some (codes "not yet " ++ file_word file ++ codes "\n")
+line_of (NoFile file) retired = Some (codes "no file: " ++ file_word file ++ codes "\n")
+line_of ReadFault retired = Some (codes "read fault\n")
+line_of WriteFault retired = Some (codes "write fault\n")
+line_of OutOfMemory retired = Some (codes "out of memory\n")
+
+-- what notes took of a line: all of it where it was noted, else a front; where there is no line, nothing, and all is noted
+abbrev pub Notes : Option (List ℕ) → Bool → Option (List ℕ) → Option (List ℕ) → Type 0
+Notes None noted old new = (noted ≡ true) × (new ≡ old)
+Notes (Some line) true old new = Appends old new line
+Notes (Some line) false old new = AppendsFront old new line

@@ -1,5 +1,6 @@
 //! The answers of the program and their exit statuses.
 ghost use Rattle.std.specs.Prelude.{◌≡◌};
+ghost use Rattle.aegis_run.specs.Reading.{end_of_token, end_of_syntax, end_of_type};
 ghost use Rattle.aegis_run.specs.Report.{status_when_noted, status_of as status_of_answer};
 
 use aegis_words::File;
@@ -19,7 +20,7 @@ pub enum End {
 
 /// The answer of the program. Want of memory is `OutOfMemory` alone, and never that of `Token`, `Syntax`
 /// or `Typing`.
-#[derive(Clone, Copy, Debug, PartialEq, Eq)]
+#[derive(Debug, PartialEq, Eq, Drop)]
 pub enum TopEnd {
     /// A run was started and ended so.
     Run(End),
@@ -48,26 +49,59 @@ pub enum TopEnd {
 }
 
 /// What a call of the program answers.
-#[derive(Clone, Copy, Debug, PartialEq, Eq)]
+#[derive(Debug, PartialEq, Eq, Drop)]
 pub struct Finish {
     /// The exit status.
     pub status: u8,
     /// The answer.
     pub end: TopEnd,
-    /// Whether the line of the answer was written.
+    /// Whether the line of the answer was written, where it has one.
     pub noted: bool,
 }
 
+impl From<TokenError> for TopEnd {
+    ghost from_gives = { λ error end. end ≡ end_of_token error };
+
+    fn from(error: TokenError) -> TopEnd {
+        match error {
+            TokenError::OutOfMemory => TopEnd::OutOfMemory,
+            error => TopEnd::Token(error),
+        }
+    }
+}
+
+impl From<SyntaxError> for TopEnd {
+    ghost from_gives = { λ error end. end ≡ end_of_syntax error };
+
+    fn from(error: SyntaxError) -> TopEnd {
+        match error {
+            SyntaxError::OutOfMemory => TopEnd::OutOfMemory,
+            error => TopEnd::Syntax(error),
+        }
+    }
+}
+
+impl From<TypeError> for TopEnd {
+    ghost from_gives = { λ error end. end ≡ end_of_type error };
+
+    fn from(error: TypeError) -> TopEnd {
+        match error {
+            TypeError::OutOfMemory => TopEnd::OutOfMemory,
+            error => TopEnd::Typing(error),
+        }
+    }
+}
+
 /// The exit status of an answer: 5 where its line was not written.
-pub fn status_of(end: TopEnd, noted: bool) -> u8
-    ensures { result ≡ status_of_answer end noted }
+pub fn status_of(end: &TopEnd, noted: bool) -> u8
+    ensures { result ≡ status_of_answer end.now noted }
 {
     if noted { status_of_noted(end) } else { 5 }
 }
 
 /// The exit status of an answer whose line was written.
-fn status_of_noted(end: TopEnd) -> u8
-    ensures { result ≡ status_when_noted end }
+fn status_of_noted(end: &TopEnd) -> u8
+    ensures { result ≡ status_when_noted end.now }
 {
     match end {
         TopEnd::Run(End::Ended) | TopEnd::Mean(MeanEnd::Ended) => 0,

@@ -43,6 +43,7 @@ pub fn run<K: Sink>(
     ensures steady { IfOk result (λ ran. ran.end ≡ End.Ended
         → K.faults out.new ≡ K.faults out.old) }
     ensures untouched { OnErr result (K.faults out.new ≡ K.faults out.old) }
+    ensures still_unlimited { K.limit out.new ≡ None }
 {
     let mut memory = code_memory(alloc, code)?;
     let mut core = Core::new(TREE_START);

@@ -7,7 +7,9 @@ mod ends;
 mod files;
 mod literals;
 mod machine;
+mod mean;
 mod report;
+mod run;
 mod top;
 
 use aegis_edge::{HostFolder, HostSink};

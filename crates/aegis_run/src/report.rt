@@ -1,5 +1,6 @@
 //! The line of an answer on the notes.
 ghost use Rattle.std.specs.Prelude.{◌≡◌, ◌+◌, ◌≤◌, ◌++◌, length, decimal};
+ghost use Rattle.std.specs.Option.{option_map};
 ghost use Rattle.aegis_run.specs.Report.{line_of, meaning_line, file_word, place_line, syntax_line, token_line, type_line};
 
 use crate::ends::{End, TopEnd};
@@ -19,25 +20,25 @@ const USAGE_OF_MEAN: &str = ", mean SOURCE INPUT TURNS";
 /// A line with its line feed.
 pub type Line = ArrayString<256>;
 
-/// The line of an answer, and of a run that ended after `retired` instructions.
-pub fn report_line(end: TopEnd, retired: u64) -> Line
-    ensures { result.bytes ≡ line_of end retired }
+/// The line of an answer, and of a run that ended after `retired` instructions, where the answer has one.
+pub fn report_line(end: &TopEnd, retired: u64) -> Option<Line>
+    ensures { option_map (λ line. line.bytes) result ≡ line_of end.now retired }
 {
-    match end {
+    Some(match end {
         TopEnd::Run(End::Ended) => line_with("ended retired ", retired, " events 0\n"),
         TopEnd::Run(End::WriteFault) => line_from("write fault", "", "\n"),
-        TopEnd::Mean(end) => report_meaning(end),
+        TopEnd::Mean(end) => report_meaning(*end),
         TopEnd::Usage => line_from(USAGE_OF_RUN, USAGE_OF_MEAN, "\n"),
-        TopEnd::TooLong(file) => line_from("too long: ", file_name(file), "\n"),
-        TopEnd::Token(error) => report_token(error),
-        TopEnd::Syntax(error) => report_syntax(error),
-        TopEnd::Typing(error) => report_typing(error),
-        TopEnd::NotYet(file) => line_from("not yet ", file_name(file), "\n"),
-        TopEnd::NoFile(file) => line_from("no file: ", file_name(file), "\n"),
+        TopEnd::TooLong(file) => line_from("too long: ", file_name(*file), "\n"),
+        TopEnd::Token(error) => report_token(*error),
+        TopEnd::Syntax(error) => report_syntax(*error),
+        TopEnd::Typing(error) => report_typing(*error),
+        TopEnd::NotYet(file) => line_from("not yet ", file_name(*file), "\n"),
+        TopEnd::NoFile(file) => line_from("no file: ", file_name(*file), "\n"),
         TopEnd::ReadFault => line_from("read fault", "", "\n"),
         TopEnd::WriteFault => line_from("write fault", "", "\n"),
         TopEnd::OutOfMemory => line_from("out of memory", "", "\n"),
-    }
+    })
 }
 
 /// The line of a meaning that ends so.

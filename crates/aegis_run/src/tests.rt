@@ -1,4 +1,4 @@
-use crate::ends::{End, Finish, TopEnd};
+use crate::ends::TopEnd;
 use crate::top::aegis;
 use aegis_edge::{MemFolder, MemSink};
 use c_meaning::MeanEnd;
@@ -16,51 +16,30 @@ fn words_of(alloc: Global, line: &str) -> Result<Vec<String>, AllocError> {
 
 const RUN: &str = "run hi none none 33554432 000102030405060708090a0b0c0d0e0f 0000000000000001";
 
-/// A run in memory with ample room: its bytes, its line and its answer, also where the second read or the second
-/// write fails.
-#[test]
-fn runs(rt: HostRuntime) -> Result<(), Fail> {
-    let alloc = rt.alloc();
-    let reads: [&[u64]; 3] = [&[], &[1], &[]];
-    let writes: [&[(u64, u64)]; 3] = [&[], &[], &[(1, 0)]];
-    let outs = ["Hi", "", "H"];
-    let lines = [
-        "ended retired 5 events 0\n",
-        "read fault\n",
-        "write fault\n",
-    ];
-    for i in 0..3usize {
-        let mut folder = MemFolder::new(alloc, reads[i])?;
-        folder.add("hi", b"int main(void){release(72);release(105);return 0;}")?;
-        folder.add("none", b"")?;
-        let mut out = MemSink::with_room(alloc, 16, writes[i])?;
-        let mut notes = MemSink::with_room(alloc, 80, &[])?;
-        let words = words_of(alloc, RUN)?;
-        aegis(alloc, words.as_slice(), &mut folder, &mut out, &mut notes);
-        assert_eq!(rt; out.bytes(), outs[i].as_bytes(), "at {i}");
-        assert_eq!(rt; notes.bytes(), lines[i].as_bytes(), "at {i}");
-    }
-    Ok(())
+/// What out and notes take of a run of a source that releases two bytes, where these calls of out fail.
+fn sinks_of_run(alloc: Global, failing: &[(u64, u64)]) -> Result<(MemSink, MemSink), Fail> {
+    let mut folder = MemFolder::new(alloc, &[])?;
+    folder.add(
+        "hi",
+        b"int main(void){release(72);release(105);return 0;}",
+    )?;
+    folder.add("none", b"")?;
+    let mut out = MemSink::with_room(alloc, 16, failing)?;
+    let mut notes = MemSink::with_room(alloc, 80, &[])?;
+    let words = words_of(alloc, RUN)?;
+    aegis(alloc, words.as_slice(), &mut folder, &mut out, &mut notes);
+    Ok((out, notes))
 }
 
-/// A run whose line is cut short: the answer stays, and the status says so.
+/// A run in memory with ample room, and one whose second byte is not taken.
 #[test]
-fn line_cut_short(rt: HostRuntime) -> Result<(), Fail> {
-    let alloc = rt.alloc();
-    let mut folder = MemFolder::new(alloc, &[])?;
-    folder.add("hi", b"int main(void){release(72);return 0;}")?;
-    folder.add("none", b"")?;
-    let mut out = MemSink::with_room(alloc, 16, &[])?;
-    let mut notes = MemSink::with_room(alloc, 5, &[])?;
-    let words = words_of(alloc, RUN)?;
-    let finish = aegis(alloc, words.as_slice(), &mut folder, &mut out, &mut notes);
-    let expected = Finish {
-        status: 5,
-        end: TopEnd::Run(End::Ended),
-        noted: false,
-    };
-    assert_eq!(rt; finish, expected);
-    assert_eq!(rt; notes.bytes(), b"ended".as_slice());
+fn runs(rt: HostRuntime) -> Result<(), Fail> {
+    let (out, notes) = sinks_of_run(rt.alloc(), &[])?;
+    assert_eq!(rt; out.bytes(), b"Hi".as_slice());
+    assert_eq!(rt; notes.bytes(), b"ended retired 5 events 0\n".as_slice());
+    let (out, notes) = sinks_of_run(rt.alloc(), &[(1, 0)])?;
+    assert_eq!(rt; out.bytes(), b"H".as_slice());
+    assert_eq!(rt; notes.bytes(), b"write fault\n".as_slice());
     Ok(())
 }
 

@@ -3,7 +3,7 @@ use Rattle.std.proofs.lemmas.Result.{IfOk-weaker}
 use Rattle.aegis_run.specs.Literals.{released}
 use Rattle.aegis_run.specs.Code.{code_of}
 use Rattle.aegis_run.proofs.CodeLemmas.{compiled}
-use Rattle.aegis_run.proofs.answer.execute.Goals as goal
+use Rattle.aegis_run.proofs.run.execute.Goals as goal
 
 pub run-requires-clause-whole : goal.run-requires-clause-whole
 run-requires-clause-whole g c =

@@ -1,0 +1,379 @@
+-- A command halts in one place: where a folder tells its files, there is cause for one answer, failures aside.
+use Rattle.std.specs.Prelude.{◌↔◌, IfSome}
+use Rattle.std.proofs.Common.{◌≡◌, ◌≢◌, ◌⊎◌, Bool, inl, inr, ⊎_elim, ℕ, List, [], ◌∷◌, Option, None, Some, refl, sym, ◌∙◌, ap, subst}
+use Rattle.aegis_edge.specs.Folder.{Files, Asking, IsMissing, IsTooLong}
+use Rattle.c_grammar.specs.declared.item.Program.{Program}
+use Rattle.c_resolver.specs.Resolving.{plain_program}
+use Rattle.c_semantics.specs.Meaning.{Meaning, mean_alone}
+use Rattle.aegis_words.specs.declared.file.File.{File}
+use Rattle.aegis_words.specs.declared.file.File.TheVariants.{Source, Script, Input}
+use Rattle.aegis_words.specs.CommandTable.{Command, step_after}
+use Rattle.aegis_words.specs.CommandTable as asks
+use Rattle.aegis_words.specs.FileReading.{HasText, Passes, ArePassed}
+use Rattle.aegis_words.specs.FileSteps.{FileStep, limit_for, step_in}
+use Rattle.aegis_words.specs.MeanWordRow.{MeanNames, mean_steps}
+use Rattle.aegis_words.specs.RunWordRow.{RunNames, run_steps}
+use Rattle.aegis_words.proofs.FileReadingLemmas.{text_once, text_missing, text_too_long, missing_too_long, one_place, passed_alike}
+use Rattle.aegis_run.specs.declared.ends.TopEnd.{TopEnd}
+use Rattle.aegis_run.specs.declared.ends.TopEnd.TheVariants.{Run, Mean, Usage, TooLong, Token, Syntax, Typing, NotYet, NoFile, ReadFault, WriteFault, OutOfMemory}
+use Rattle.aegis_run.specs.Answers.{IsRefusal, IsFailure}
+use Rattle.aegis_run.specs.Causes.{AreTold, Cause, IfMean, IfRun, Serves, Stops, IsOwn, Completes, CauseAt, CauseAtFile, HasCause, IsStoppedByText, RefusesWhere}
+use Rattle.aegis_run.specs.Literals.{literals_of}
+use Rattle.aegis_run.specs.MeanCommand.{IsOwnOfMean, MeanCommand, MeanMeans, ServesMean, StopsMean, TellsMeaning}
+use Rattle.aegis_run.specs.RunCommand.{RunCommand, IsOwnOfRun, RunMeans, ServesRun, StopsRun}
+use Rattle.aegis_run.specs.Report.{Notes, line_of}
+use Rattle.aegis_run.specs.SourceTexts.{IsSource, SourceFault}
+use Rattle.aegis_run.proofs.SourceLemmas.{accepted_fault, one_fault, one_text}
+
+-- ---- a text lets a command go on, or stops it in one way
+
+-- a source that keeps the rules has no fault
+serves_source : (text : List ℕ) (end : TopEnd) (program : Program) → IsSource text program → SourceFault text end → ⊥
+serves_source text end program is fault = accepted_fault text program end is.is_text is.typed fault
+
+-- the program of a text releases literals or does not
+one_form : (text : List ℕ) (p q : Program) (literals : List ℕ) → IsSource text p → IsSource text q → literals_of p ≡ Some literals → literals_of q ≡ None → ⊥
+one_form text p q literals one two some none =
+    let same : p ≡ q = one_text text p q one.is_text two.is_text in
+    let both : Some literals ≡ None = sym some ∙ ap literals_of same ∙ none in cc
+
+run_goes_on : (file : File) (text : List ℕ) (end : TopEnd) → ServesRun file text → StopsRun file text end → ⊥
+run_goes_on Source text (NotYet Source) serves stops = one_form text serves.0 stops.0 serves.2.0 serves.1 stops.1 serves.2.1 stops.2
+run_goes_on Source text (NotYet Script) serves stops = serves_source text (NotYet Script) serves.0 serves.1 stops
+run_goes_on Source text (NotYet Input) serves stops = serves_source text (NotYet Input) serves.0 serves.1 stops
+run_goes_on Source text (Token error) serves stops = serves_source text (Token error) serves.0 serves.1 stops
+run_goes_on Source text (Syntax error) serves stops = serves_source text (Syntax error) serves.0 serves.1 stops
+run_goes_on Source text (Typing error) serves stops = serves_source text (Typing error) serves.0 serves.1 stops
+run_goes_on Source text Usage serves stops = stops
+run_goes_on Source text OutOfMemory serves stops = stops
+run_goes_on Source text (TooLong file) serves stops = stops
+run_goes_on Source text (NoFile file) serves stops = stops
+run_goes_on Source text ReadFault serves stops = stops
+run_goes_on Source text WriteFault serves stops = stops
+run_goes_on Source text (Run how) serves stops = stops
+run_goes_on Source text (Mean how) serves stops = stops
+run_goes_on Script text (NotYet Script) serves stops = stops serves
+run_goes_on Script text (NotYet Source) serves stops = stops
+run_goes_on Script text (NotYet Input) serves stops = stops
+run_goes_on Script text (Token error) serves stops = stops
+run_goes_on Script text (Syntax error) serves stops = stops
+run_goes_on Script text (Typing error) serves stops = stops
+run_goes_on Script text Usage serves stops = stops
+run_goes_on Script text OutOfMemory serves stops = stops
+run_goes_on Script text (TooLong file) serves stops = stops
+run_goes_on Script text (NoFile file) serves stops = stops
+run_goes_on Script text ReadFault serves stops = stops
+run_goes_on Script text WriteFault serves stops = stops
+run_goes_on Script text (Run how) serves stops = stops
+run_goes_on Script text (Mean how) serves stops = stops
+run_goes_on Input text end serves stops = stops
+
+mean_goes_on : (file : File) (text : List ℕ) (end : TopEnd) → ServesMean file text → StopsMean file text end → ⊥
+mean_goes_on Source text end serves stops = serves_source text end serves.0 serves.1 stops
+mean_goes_on Script text end serves stops = stops
+mean_goes_on Input text end serves stops = stops
+
+goes_on : (command : Command) (file : File) (text : List ℕ) (end : TopEnd) → Serves command file text → Stops command file text end → ⊥
+goes_on (asks.Run names) file text end serves stops = run_goes_on file text end serves stops
+goes_on (asks.Mean names) file text end serves stops = mean_goes_on file text end serves stops
+
+-- what stops a run at its source: its form, or a fault
+run_stop : (text : List ℕ) (end : TopEnd) → StopsRun Source text end → ((end ≡ NotYet Source) × ((program : Program) × IsSource text program × (literals_of program ≡ None))) ⊎ SourceFault text end
+run_stop text (NotYet Source) stops = inl (refl, stops)
+run_stop text (NotYet Script) stops = inr stops
+run_stop text (NotYet Input) stops = inr stops
+run_stop text (Token error) stops = inr stops
+run_stop text (Syntax error) stops = inr stops
+run_stop text (Typing error) stops = inr stops
+run_stop text Usage stops = inr stops
+run_stop text OutOfMemory stops = inr stops
+run_stop text (TooLong file) stops = inr stops
+run_stop text (NoFile file) stops = inr stops
+run_stop text ReadFault stops = inr stops
+run_stop text WriteFault stops = inr stops
+run_stop text (Run how) stops = inr stops
+run_stop text (Mean how) stops = inr stops
+
+script_stop : (text : List ℕ) (end : TopEnd) → StopsRun Script text end → end ≡ NotYet Script
+script_stop text (NotYet Script) stops = refl
+script_stop text (NotYet Source) stops = absurd stops
+script_stop text (NotYet Input) stops = absurd stops
+script_stop text (Token error) stops = absurd stops
+script_stop text (Syntax error) stops = absurd stops
+script_stop text (Typing error) stops = absurd stops
+script_stop text Usage stops = absurd stops
+script_stop text OutOfMemory stops = absurd stops
+script_stop text (TooLong file) stops = absurd stops
+script_stop text (NoFile file) stops = absurd stops
+script_stop text ReadFault stops = absurd stops
+script_stop text WriteFault stops = absurd stops
+script_stop text (Run how) stops = absurd stops
+script_stop text (Mean how) stops = absurd stops
+
+run_stops_once : (file : File) (text : List ℕ) (a b : TopEnd) → StopsRun file text a → StopsRun file text b → a ≡ b
+run_stops_once Source text a b one two = go (run_stop text a one) (run_stop text b two)
+  where
+    Form : Type 0
+    Form = (program : Program) × IsSource text program × (literals_of program ≡ None)
+
+    go : ((a ≡ NotYet Source) × ((program : Program) × IsSource text program × (literals_of program ≡ None))) ⊎ SourceFault text a
+        → ((b ≡ NotYet Source) × ((program : Program) × IsSource text program × (literals_of program ≡ None))) ⊎ SourceFault text b → a ≡ b
+    go (inl one) (inl two) = one.0 ∙ sym two.0
+    go (inl one) (inr two) = absurd (serves_source text b one.1.0 one.1.1 two)
+    go (inr one) (inl two) = absurd (serves_source text a two.1.0 two.1.1 one)
+    go (inr one) (inr two) = one_fault text a b one two
+run_stops_once Script text a b one two = script_stop text a one ∙ sym (script_stop text b two)
+run_stops_once Input text a b one two = absurd one
+
+mean_stops_once : (file : File) (text : List ℕ) (a b : TopEnd) → StopsMean file text a → StopsMean file text b → a ≡ b
+mean_stops_once Source text a b one two = one_fault text a b one two
+mean_stops_once Script text a b one two = absurd one
+mean_stops_once Input text a b one two = absurd one
+
+stops_once : (command : Command) (file : File) (text : List ℕ) (a b : TopEnd) → Stops command file text a → Stops command file text b → a ≡ b
+stops_once (asks.Run names) file text a b one two = run_stops_once file text a b one two
+stops_once (asks.Mean names) file text a b one two = mean_stops_once file text a b one two
+
+-- ---- a file has one answer
+
+-- the ways in which a command answers at a file
+data AtFile (files : Files) (command : Command) (step : FileStep) (end : TopEnd) : Type 0 where
+  missing : (before now : ℕ) → end ≡ NoFile step.file → IsMissing (Some files) step.name before now → AtFile files command step end
+  too_long : (before now : ℕ) → end ≡ TooLong step.file → IsTooLong (Some files) step.name (limit_for step.file) before now → AtFile files command step end
+  stopped : IsStoppedByText (Some files) command step end → AtFile files command step end
+  failed : IsFailure end → AtFile files command step end
+
+at_file : (files : Files) (command : Command) (step : FileStep) (before now : ℕ) (end : TopEnd) → CauseAtFile (Some files) command step before now end → AtFile files command step end
+at_file files command step before now (NoFile file) cause = missing before now (ap NoFile cause.0) cause.1
+at_file files command step before now (TooLong file) cause = too_long before now (ap TooLong cause.0) cause.1
+at_file files command step before now (Token error) cause = stopped cause
+at_file files command step before now (Syntax error) cause = stopped cause
+at_file files command step before now (Typing error) cause = stopped cause
+at_file files command step before now (NotYet file) cause = stopped cause
+at_file files command step before now ReadFault cause = failed tt
+at_file files command step before now OutOfMemory cause = failed tt
+at_file files command step before now Usage cause = absurd cause
+at_file files command step before now (Run end) cause = absurd cause
+at_file files command step before now (Mean end) cause = absurd cause
+at_file files command step before now WriteFault cause = absurd cause
+
+-- two answers at one file are one, unless the first is a failure
+one_at_file : (files : Files) (command : Command) (step : FileStep) (a b : TopEnd) → (IsFailure b → ⊥) → AtFile files command step a → AtFile files command step b → (a ≡ b) ⊎ IsFailure a
+one_at_file files command step a b sound (failed how) two = inr how
+one_at_file files command step a b sound (missing _ _ _ _) (failed how) = absurd (sound how)
+one_at_file files command step a b sound (too_long _ _ _ _) (failed how) = absurd (sound how)
+one_at_file files command step a b sound (stopped _) (failed how) = absurd (sound how)
+one_at_file files command step a b sound (missing _ _ one _) (missing _ _ two _) = inl (one ∙ sym two)
+one_at_file files command step a b sound (too_long _ _ one _) (too_long _ _ two _) = inl (one ∙ sym two)
+one_at_file files command step a b sound (missing f g _ lacks) (too_long h i _ long) = absurd (missing_too_long files step.name (limit_for step.file) f g h i lacks long)
+one_at_file files command step a b sound (too_long h i _ long) (missing f g _ lacks) = absurd (missing_too_long files step.name (limit_for step.file) f g h i lacks long)
+one_at_file files command step a b sound (missing f g _ lacks) (stopped is) = absurd (text_missing files step is.text f g is.read lacks)
+one_at_file files command step a b sound (stopped is) (missing f g _ lacks) = absurd (text_missing files step is.text f g is.read lacks)
+one_at_file files command step a b sound (too_long h i _ long) (stopped is) = absurd (text_too_long files step is.text h i is.read long)
+one_at_file files command step a b sound (stopped is) (too_long h i _ long) = absurd (text_too_long files step is.text h i is.read long)
+one_at_file files command step a b sound (stopped one) (stopped two) =
+    let same : one.text ≡ two.text = text_once files step one.text two.text one.read two.read in
+    let P : List ℕ → Type 0 = λ text. Stops command step.file text a in
+    inl (stops_once command step.file two.text a b (subst P same one.fault) two.fault)
+
+-- at a file with an answer that is no failure no text is passed
+not_passed : (files : Files) (command : Command) (step : FileStep) (end : TopEnd) (text : List ℕ) → (IsFailure end → ⊥) → AtFile files command step end
+    → HasText (Some files) step text → Serves command step.file text → ⊥
+not_passed files command step end text sound (failed how) has serves = sound how
+not_passed files command step end text sound (missing f g _ lacks) has serves = text_missing files step text f g has lacks
+not_passed files command step end text sound (too_long h i _ long) has serves = text_too_long files step text h i has long
+not_passed files command step end text sound (stopped is) has serves =
+    let P : List ℕ → Type 0 = λ text. Serves command step.file text in
+    goes_on command step.file is.text end (subst P (text_once files step text is.text has is.read) serves) is.fault
+
+blocked : (files : Files) (command : Command) (step : Option FileStep) (before now : ℕ) (end : TopEnd) → (IsFailure end → ⊥) → CauseAt (Some files) command step before now end
+    → (text : List ℕ) → Passes (Serves command) (Some files) step text → ⊥
+blocked files command None before now end sound cause text passes = passes
+blocked files command (Some step) before now end sound cause text passes = not_passed files command step end text sound (at_file files command step before now end cause) passes.0 passes.1
+
+-- ---- a command has one answer
+
+-- a refusal is no failure, and no answer of a command's own
+refusal_sound : (end : TopEnd) → IsRefusal end → IsFailure end → ⊥
+refusal_sound (NoFile file) refusal failure = failure
+refusal_sound (TooLong file) refusal failure = failure
+refusal_sound (Token error) refusal failure = failure
+refusal_sound (Syntax error) refusal failure = failure
+refusal_sound (Typing error) refusal failure = failure
+refusal_sound (NotYet file) refusal failure = failure
+refusal_sound Usage refusal failure = refusal
+refusal_sound ReadFault refusal failure = refusal
+refusal_sound OutOfMemory refusal failure = refusal
+refusal_sound WriteFault refusal failure = refusal
+refusal_sound (Run how) refusal failure = refusal
+refusal_sound (Mean how) refusal failure = refusal
+
+run_own : (end : TopEnd) → IsRefusal end → IsOwnOfRun end → ⊥
+run_own (Run how) refusal own = refusal
+run_own (NoFile file) refusal own = own
+run_own (TooLong file) refusal own = own
+run_own (Token error) refusal own = own
+run_own (Syntax error) refusal own = own
+run_own (Typing error) refusal own = own
+run_own (NotYet file) refusal own = own
+run_own Usage refusal own = own
+run_own ReadFault refusal own = own
+run_own OutOfMemory refusal own = own
+run_own WriteFault refusal own = own
+run_own (Mean how) refusal own = own
+
+mean_own : (end : TopEnd) → IsRefusal end → IsOwnOfMean end → ⊥
+mean_own (Mean how) refusal own = refusal
+mean_own WriteFault refusal own = refusal
+mean_own (Run how) refusal own = own
+mean_own (NoFile file) refusal own = own
+mean_own (TooLong file) refusal own = own
+mean_own (Token error) refusal own = own
+mean_own (Syntax error) refusal own = own
+mean_own (Typing error) refusal own = own
+mean_own (NotYet file) refusal own = own
+mean_own Usage refusal own = own
+mean_own ReadFault refusal own = own
+mean_own OutOfMemory refusal own = own
+
+own_refusal : (command : Command) (end : TopEnd) → IsRefusal end → IsOwn command end → ⊥
+own_refusal (asks.Run names) end refusal own = run_own end refusal own
+own_refusal (asks.Mean names) end refusal own = mean_own end refusal own
+
+-- an answer is a failure or is not
+sound_or_not : (end : TopEnd) → IsFailure end ⊎ (IsFailure end → ⊥)
+sound_or_not ReadFault = inl tt
+sound_or_not OutOfMemory = inl tt
+sound_or_not Usage = inr (λ failure. failure)
+sound_or_not (Run how) = inr (λ failure. failure)
+sound_or_not (Mean how) = inr (λ failure. failure)
+sound_or_not WriteFault = inr (λ failure. failure)
+sound_or_not (NoFile file) = inr (λ failure. failure)
+sound_or_not (TooLong file) = inr (λ failure. failure)
+sound_or_not (Token error) = inr (λ failure. failure)
+sound_or_not (Syntax error) = inr (λ failure. failure)
+sound_or_not (Typing error) = inr (λ failure. failure)
+sound_or_not (NotYet file) = inr (λ failure. failure)
+
+-- at one place a refusal is the answer
+one_at : (files : Files) (command : Command) (step : Option FileStep) (f g h i : ℕ) (end refusal : TopEnd) → IsRefusal refusal
+    → CauseAt (Some files) command step f g end → CauseAt (Some files) command step h i refusal → (end ≡ refusal) ⊎ IsFailure end
+one_at files command (Some step) f g h i end refusal is one two =
+    one_at_file files command step end refusal (refusal_sound refusal is) (at_file files command step f g end one) (at_file files command step h i refusal two)
+one_at files command None f g h i end refusal is one two =
+    ⊎_elim
+    (λ (own : IsOwn command refusal). absurd (own_refusal command refusal is own))
+    (λ (out : refusal ≡ OutOfMemory). absurd (let P : TopEnd → Type 0 = λ end. IsRefusal end in subst P out is))
+    two
+
+pub refuses : (files : Files) (command : Command) (before now : ℕ) (end : TopEnd) → HasCause (Some files) command before now end → RefusesWhere (Some files) command before end
+refuses files command before now end why refusal is cause =
+    ⊎_elim
+    (λ (failure : IsFailure end). inr failure)
+    (λ (sound : IsFailure end → ⊥).
+    let same : why.texts ≡ cause.texts = one_place (step_after command) (Serves command) files why.texts cause.texts why.passed cause.passed
+        (blocked files command (step_after command why.texts) before now end sound why.cause)
+        (blocked files command (step_after command cause.texts) before before refusal (refusal_sound refusal is) cause.cause) in
+    let P : List (List ℕ) → Type 0 = λ texts. CauseAt (Some files) command (step_after command texts) before now end in
+    one_at files command (step_after command cause.texts) before now before before end refusal is (subst P same why.cause) cause.cause)
+    (sound_or_not end)
+
+-- where all files were passed, the answer is the command's own
+own_or_failed : (files : Files) (command : Command) (before now : ℕ) (end : TopEnd) (texts : List (List ℕ)) → HasCause (Some files) command before now end
+    → ArePassed (step_after command) (Serves command) (Some files) texts → step_after command texts ≡ None → IsOwn command end ⊎ IsFailure end
+own_or_failed files command before now end texts why passed last =
+    ⊎_elim
+    (λ (failure : IsFailure end). inr failure)
+    (λ (sound : IsFailure end → ⊥).
+    let same : why.texts ≡ texts = one_place (step_after command) (Serves command) files why.texts texts why.passed passed
+        (blocked files command (step_after command why.texts) before now end sound why.cause)
+        (λ text passes. let P : Option FileStep → Type 0 = λ step. Passes (Serves command) (Some files) step text in subst P last passes) in
+    let R : Option FileStep → Type 0 = λ step. CauseAt (Some files) command step before now end in
+    let there : IsOwn command end ⊎ (end ≡ OutOfMemory) = subst R (ap (step_after command) same ∙ last) why.cause in
+    ⊎_elim
+    (λ (own : IsOwn command end). inl own)
+    (λ (out : end ≡ OutOfMemory). let P : TopEnd → Type 0 = λ end. IsFailure end in inr (subst P (sym out) tt))
+    there)
+    (sound_or_not end)
+
+-- a `mean` means one thing
+one_meaning : (files : Files) (names : MeanNames) (m n : Meaning) → MeanMeans (Some files) names m → MeanMeans (Some files) names n → m ≡ n
+one_meaning files names m n one two =
+    let texts : (one.input ∷ one.source ∷ []) ≡ (two.input ∷ two.source ∷ []) =
+        passed_alike (step_in (mean_steps names)) ServesMean files (one.input ∷ one.source ∷ []) (two.input ∷ two.source ∷ []) refl one.passed two.passed in
+    let input : one.input ≡ two.input = cc in
+    let source : one.source ≡ two.source = cc in
+    let P : List ℕ → Type 0 = λ text. IsSource text one.program in
+    let is : IsSource two.source one.program = subst P source one.is_source in
+    let program : one.program ≡ two.program = one_text two.source one.program two.program is.is_text two.is_source.is_text in
+    sym one.meaning_is ∙ ap (λ program. mean_alone (plain_program program) one.input names.turns) program
+    ∙ ap (λ input. mean_alone (plain_program two.program) input names.turns) input ∙ two.meaning_is
+
+tells : (files : Files) (names : MeanNames) (m : Meaning) (end : TopEnd) (old new : Option (List ℕ)) → MeanMeans (Some files) names m → MeanCommand (Some files) names end old new
+    → IsOwnOfMean end → TellsMeaning m end
+tells files names m (Mean how) old new means done own = done.ended ∙ ap (λ meaning. meaning.end) (one_meaning files names done.meaning m done.means means)
+tells files names m WriteFault old new means done own = tt
+tells files names m (Run how) old new means done own = own
+tells files names m Usage old new means done own = own
+tells files names m (NoFile file) old new means done own = own
+tells files names m (TooLong file) old new means done own = own
+tells files names m (Token error) old new means done own = own
+tells files names m (Syntax error) old new means done own = own
+tells files names m (Typing error) old new means done own = own
+tells files names m (NotYet file) old new means done own = own
+tells files names m ReadFault old new means done own = own
+tells files names m OutOfMemory old new means done own = own
+
+pub run_completes : (files : Files) (names : RunNames) (before now : ℕ) (end : TopEnd) → HasCause (Some files) (asks.Run names) before now end → Completes (Some files) (asks.Run names) end
+run_completes files names before now end why meaning means =
+    own_or_failed files (asks.Run names) before now end (means.input ∷ means.script ∷ means.source ∷ []) why means.passed refl
+
+pub mean_completes : (files : Files) (names : MeanNames) (before now : ℕ) (end : TopEnd) (old new : Option (List ℕ)) → HasCause (Some files) (asks.Mean names) before now end
+    → MeanCommand (Some files) names end old new → Completes (Some files) (asks.Mean names) end
+mean_completes files names before now end old new why done meaning means =
+    ⊎_elim
+    (λ (own : IsOwnOfMean end). inl (tells files names meaning end old new means done own))
+    (λ (failure : IsFailure end). inr failure)
+    (own_or_failed files (asks.Mean names) before now end (means.input ∷ means.source ∷ []) why means.passed refl)
+
+-- ---- words
+
+no_usage : (files : Option Files) (command : Command) (step : Option FileStep) (before now : ℕ) → CauseAt files command step before now Usage → ⊥
+no_usage files command (Some step) before now cause = cause
+no_usage files (asks.Run names) None before now (inl own) = own
+no_usage files (asks.Mean names) None before now (inl own) = own
+no_usage files command None before now (inr same) = cc
+
+pub usage_where : (files : Option Files) (row : Option Command) (before now : ℕ) (old new : Option (List Asking)) (end : TopEnd) → Cause files row before now old new end
+    → (end ≡ Usage) ↔ (row ≡ None)
+usage_where files None before now old new end cause = (λ same. refl, λ same. cause.0)
+usage_where files (Some command) before now old new end cause =
+    let P : TopEnd → Type 0 = λ end. CauseAt files command (step_after command cause.why.texts) before now end in
+    (λ same. absurd (no_usage files command (step_after command cause.why.texts) before now (subst P same cause.why.cause)), λ same. absurd cc)
+
+pub refused_where : (files : Option Files) (row : Option Command) (before now : ℕ) (old new : Option (List Asking)) (end : TopEnd) → Cause files row before now old new end
+    → AreTold files → IfSome row (λ command. RefusesWhere files command before end)
+refused_where None row before now old new end cause told = absurd told
+refused_where (Some files) None before now old new end cause told = tt
+refused_where (Some files) (Some command) before now old new end cause told = refuses files command before now end cause.why
+
+pub complete_where : (files : Option Files) (row : Option Command) (before now : ℕ) (old new : Option (List Asking)) (end : TopEnd) (written written' : Option (List ℕ))
+    → Cause files row before now old new end → IfMean row (λ names. MeanCommand files names end written written') → AreTold files → IfSome row (λ command. Completes files command end)
+complete_where None row before now old new end written written' cause mean told = absurd told
+complete_where (Some files) None before now old new end written written' cause mean told = tt
+complete_where (Some files) (Some (asks.Run names)) before now old new end written written' cause mean told = run_completes files names before now end cause.why
+complete_where (Some files) (Some (asks.Mean names)) before now old new end written written' cause mean told = mean_completes files names before now end written written' cause.why mean
+
+-- a run and its line count alike
+pub run_line : (files : Option Files) (row : Option Command) (end answer : TopEnd) (retired : ℕ) (noted : Bool) (old new before after : Option (List ℕ)) → answer ≡ end
+    → IfRun row (λ names. RunCommand files names end retired old new) → Notes (line_of end retired) noted before after
+    → IfRun row (λ names. (retired : ℕ) × RunCommand files names answer retired old new × Notes (line_of answer retired) noted before after)
+run_line files row end answer retired noted old new before after same run notes =
+    let P : TopEnd → Type 0 = λ answer. IfRun row (λ names. (retired : ℕ) × RunCommand files names answer retired old new × Notes (line_of answer retired) noted before after) in
+    subst P (sym same) (go row run)
+  where
+    go : (row : Option Command) → IfRun row (λ names. RunCommand files names end retired old new)
+        → IfRun row (λ names. (retired : ℕ) × RunCommand files names end retired old new × Notes (line_of end retired) noted before after)
+    go None run = tt
+    go (Some (asks.Run names)) run = (retired, run, notes)
+    go (Some (asks.Mean names)) run = tt
