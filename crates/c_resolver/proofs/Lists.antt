@@ -10,8 +10,8 @@ use Rattle.c_semantics.specs.declared.tree.Expr as own
 use Rattle.c_semantics.specs.ResolvedTree as Tree
 use Rattle.c_semantics.specs.ResolvedViews.{expr_of, exprs_of}
 use Rattle.c_semantics.proofs.ViewForms.{expr_of-Called}
-use Rattle.c_resolver.specs.Resolving.{Resolved, arguments_in, call_value, expr_step, list_in, function_number, typed}
-use Rattle.c_resolver.specs.ResolvingViews.{arguments_then}
+use Rattle.c_resolver.specs.Resolving.{Resolved, by_binding, call_value, function_number, nothing, typed_step, typed_expr}
+use Rattle.c_resolver.specs.ResolvingViews.{arguments_then, list_in}
 
 pub number-at : (fs : List ℕ) (i t token : ℕ) → i < length fs → t ≡ slice_index_or fs i 0 → function_number (drop i fs) token ≡ cond (t == token) 0 (1 + function_number (drop (suc i) fs) token)
 number-at [] i t token below e = absurd (omega (arith, below))
@@ -37,7 +37,7 @@ after-none Tree.NoArguments = refl
 after-none (Tree.Argument e es) = ap (λ later. Tree.Argument e later) (after-none es)
 
 pub list-at : (fs : List ℕ) (es : List Expr) (i : ℕ) (e : Expr) (known : List Declaration) → i < length es → e ≡ slice_index_or es i e →
-    list_in fs (drop i es) known ≡ Tree.Argument (typed fs e known).expr (list_in fs (drop (suc i) es) known)
+    list_in fs (drop i es) known ≡ Tree.Argument (typed_expr fs e known).expr (list_in fs (drop (suc i) es) known)
 list-at fs [] i e known below same = absurd (omega (arith, below))
 list-at fs (d ∷ es) zero e known below same = rw same refl
 list-at fs (d ∷ es) (suc i) e known below same = list-at fs es i e known (omega (arith, below)) same
@@ -50,15 +50,10 @@ list-end fs (d ∷ es) (suc n) known below = list-end fs es n known (omega (arit
 
 pub ruleset arguments = (after-snoc, after-none, list-at, list-end)
 
-arguments_in-map : (fs : List ℕ) (es : List Expr) (known : List Declaration) → arguments_in (map (typed fs) es) known ≡ list_in fs es known
-arguments_in-map fs [] known = refl
-arguments_in-map fs (e ∷ es) known = ap (λ later. Tree.Argument (typed fs e known).expr later) (arguments_in-map fs es known)
-
 pub typed-Call : (fs : List ℕ) (name : List ℕ) (arguments : List Expr) (token : ℕ) (known : List Declaration) →
-    typed fs (expr.Call name arguments token) known ≡ call_value fs (latest known name) (list_in fs arguments known)
+    typed_expr fs (expr.Call name arguments token) known ≡ by_binding nothing (call_value fs (list_in fs arguments known)) (latest known name)
 typed-Call fs name arguments token known =
-    ap (λ e. typed fs e known) (sym (expr.rolls-Call name arguments token))
-    ∙ ap (λ r. r known) (fold-roll-Expr Resolved (expr_step fs) (Expr-F.Call name arguments token))
-    ∙ ap (call_value fs (latest known name)) (arguments_in-map fs arguments known)
+    ap (λ e. typed_expr fs e known) (sym (expr.rolls-Call name arguments token))
+    ∙ ap (λ r. r known) (fold-roll-Expr Resolved (typed_step fs) (Expr-F.Call name arguments token))
 
 pub ruleset typed_forms = (typed-Call)

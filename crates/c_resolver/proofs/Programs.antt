@@ -1,5 +1,5 @@
 -- Items one at a time.
-use Rattle.std.proofs.Common.{◌≡◌, ◌∙◌, ap, sym, ℕ, zero, suc, ◌+◌, ◌<◌, ◌≤◌, cond, List, [], ◌∷◌, ◌++◌, length, drop, slice_index_or, Option, Some, None, arith, refl, append_assoc, append-nil}
+use Rattle.std.proofs.Common.{◌≡◌, ◌∙◌, ap, sym, ℕ, zero, suc, ◌+◌, ◌<◌, ◌≤◌, cond, List, [], ◌∷◌, ◌++◌, length, map, drop, slice_index_or, Option, Some, None, arith, refl, append_assoc, append-nil}
 use Rattle.c_grammar.specs.declared.item.Item.{Item}
 use Rattle.c_grammar.specs.declared.item.Item.TheVariants as item
 use Rattle.c_grammar.specs.declared.item.Parameter.{Parameter}
@@ -9,7 +9,8 @@ use Rattle.c_scopes.specs.Declarations.{declaration_of, declarations_of, paramet
 use Rattle.c_semantics.specs.declared.tree.Function as own
 use Rattle.c_semantics.specs.declared.tree.Object as object
 use Rattle.c_semantics.specs.ResolvedViews.{function_of, functions_of, object_of, objects_of}
-use Rattle.c_resolver.specs.Resolving.{function_tokens, functions_in, objects_in, parameters_in, variable_of, constant_word, constant_words}
+use Rattle.c_resolver.specs.Resolving.{function_tokens, functions_in, objects_in, variable_of, constant_word}
+use Rattle.c_resolver.specs.ResolvingViews.{parameters_in}
 
 pub tokens-at : (items : List Item) (i : ℕ) (x : Item) → i < length items → x ≡ slice_index_or items i x →
     function_tokens (drop i items) ≡ function_tokens (x ∷ []) ++ function_tokens (drop (suc i) items)
@@ -27,12 +28,12 @@ tokens-end (y ∷ items) zero below = absurd (omega (arith, below))
 tokens-end (y ∷ items) (suc n) below = tokens-end items n (omega (arith, below))
 
 pub words-at : (values : List Value) (i : ℕ) (x : Value) → i < length values → x ≡ slice_index_or values i x →
-    constant_words (drop i values) ≡ constant_word x ∷ constant_words (drop (suc i) values)
+    map constant_word (drop i values) ≡ constant_word x ∷ map constant_word (drop (suc i) values)
 words-at [] i x below same = absurd (omega (arith, below))
 words-at (y ∷ values) zero x below same = rw same refl
 words-at (y ∷ values) (suc i) x below same = words-at values i x (omega (arith, below)) same
 
-pub words-end : (values : List Value) (n : ℕ) → length values ≤ n → constant_words (drop n values) ≡ []
+pub words-end : (values : List Value) (n : ℕ) → length values ≤ n → map constant_word (drop n values) ≡ []
 words-end [] zero below = refl
 words-end [] (suc n) below = refl
 words-end (y ∷ values) zero below = absurd (omega (arith, below))

@@ -1,5 +1,5 @@
 -- Each form of statement with its names resolved, and rows of statements one at a time.
-use Rattle.std.proofs.Common.{◌≡◌, ◌∙◌, ap, sym, ℕ, zero, suc, ◌+◌, ◌<◌, ◌≤◌, List, [], ◌∷◌, ◌++◌, length, map, take, drop, slice_index_or, Option, Some, None, arith, refl, append_assoc, append-nil}
+use Rattle.std.proofs.Common.{◌≡◌, ◌∙◌, ap, sym, ℕ, zero, suc, ◌+◌, ◌<◌, ◌≤◌, List, [], ◌∷◌, ◌++◌, length, take, drop, slice_index_or, Option, Some, None, arith, refl, append_assoc, append-nil}
 use Rattle.c_grammar.specs.declared.expr.Expr.{Expr}
 use Rattle.c_grammar.specs.declared.stmt.Stmt.{Stmt}
 use Rattle.c_grammar.specs.declared.stmt.Stmt.TheVariants as stmt
@@ -10,53 +10,48 @@ use Rattle.c_semantics.specs.declared.tree.Stmt as own
 use Rattle.c_semantics.specs.ResolvedTree as Tree
 use Rattle.c_semantics.specs.ResolvedViews.{stmt_of, stmts_of}
 use Rattle.c_semantics.proofs.ViewForms.{stmt_of-Block, stmt_of-If, stmt_of-For}
-use Rattle.c_resolver.specs.Resolving.{ResolvedStmt, body_declared, body_in, branch_declared, branch_in, resolved_in_turn, part_in, only_resolved, resolved, stmt_step, typed}
-use Rattle.c_resolver.specs.ResolvingViews.{stmts_then}
-
-resolved_in_turn-map : (fs : List ℕ) (ss : List Stmt) (known : List Declaration) → resolved_in_turn (map (resolved fs) ss) known ≡ body_in fs ss known
-resolved_in_turn-map fs [] known = refl
-resolved_in_turn-map fs (s ∷ ss) known = ap (λ later. Tree.Then ((resolved fs s).at known) later) (resolved_in_turn-map fs ss (known ++ (resolved fs s).declared))
+use Rattle.c_resolver.specs.Resolving.{ResolvedStmt, part_in, only_resolved, resolved, resolved_step, typed_expr}
+use Rattle.c_resolver.specs.ResolvingViews.{body_declared, body_in, branch_declared, branch_in, stmts_then}
 
 pub resolved-Block : (fs : List ℕ) (body : List Stmt) (token : ℕ) (known : List Declaration) → (resolved fs (stmt.Block body token)).at known ≡ Tree.Block (body_in fs body known)
 resolved-Block fs body token known =
-    ap (λ s. s.at known) (ap (resolved fs) (sym (stmt.rolls-Block body token)) ∙ fold-roll-Stmt ResolvedStmt (stmt_step fs) (Stmt-F.Block body token))
-    ∙ ap (λ s. Tree.Block s) (resolved_in_turn-map fs body known)
+    ap (λ s. s.at known) (ap (resolved fs) (sym (stmt.rolls-Block body token)) ∙ fold-roll-Stmt ResolvedStmt (resolved_step fs) (Stmt-F.Block body token))
 
 pub declared-Block : (fs : List ℕ) (body : List Stmt) (token : ℕ) → (resolved fs (stmt.Block body token)).declared ≡ []
-declared-Block fs body token = ap (λ s. s.declared) (ap (resolved fs) (sym (stmt.rolls-Block body token)) ∙ fold-roll-Stmt ResolvedStmt (stmt_step fs) (Stmt-F.Block body token))
+declared-Block fs body token = ap (λ s. s.declared) (ap (resolved fs) (sym (stmt.rolls-Block body token)) ∙ fold-roll-Stmt ResolvedStmt (resolved_step fs) (Stmt-F.Block body token))
 
 resolved-If-none : (fs : List ℕ) (test : Expr) (body : Stmt) (token : ℕ) →
-    resolved fs (stmt.If test body None token) ≡ only_resolved (λ known. Tree.If (typed fs test known).expr ((resolved fs body).at known) (branch_in fs None known))
-resolved-If-none fs test body token = ap (resolved fs) (sym (stmt.rolls-If test body None token)) ∙ fold-roll-Stmt ResolvedStmt (stmt_step fs) (Stmt-F.If test body None token)
+    resolved fs (stmt.If test body None token) ≡ only_resolved (λ known. Tree.If (typed_expr fs test known).expr ((resolved fs body).at known) (branch_in fs None known))
+resolved-If-none fs test body token = ap (resolved fs) (sym (stmt.rolls-If test body None token)) ∙ fold-roll-Stmt ResolvedStmt (resolved_step fs) (Stmt-F.If test body None token)
 
 resolved-If-some : (fs : List ℕ) (test : Expr) (body : Stmt) (other : Stmt) (token : ℕ) →
-    resolved fs (stmt.If test body (Some other) token) ≡ only_resolved (λ known. Tree.If (typed fs test known).expr ((resolved fs body).at known) (branch_in fs (Some other) known))
-resolved-If-some fs test body other token = ap (resolved fs) (sym (stmt.rolls-If test body (Some other) token)) ∙ fold-roll-Stmt ResolvedStmt (stmt_step fs) (Stmt-F.If test body (Some other) token)
+    resolved fs (stmt.If test body (Some other) token) ≡ only_resolved (λ known. Tree.If (typed_expr fs test known).expr ((resolved fs body).at known) (branch_in fs (Some other) known))
+resolved-If-some fs test body other token = ap (resolved fs) (sym (stmt.rolls-If test body (Some other) token)) ∙ fold-roll-Stmt ResolvedStmt (resolved_step fs) (Stmt-F.If test body (Some other) token)
 
 pub resolved-If : (fs : List ℕ) (test : Expr) (body : Stmt) (other : Option Stmt) (token : ℕ) →
-    resolved fs (stmt.If test body other token) ≡ only_resolved (λ known. Tree.If (typed fs test known).expr ((resolved fs body).at known) (branch_in fs other known))
+    resolved fs (stmt.If test body other token) ≡ only_resolved (λ known. Tree.If (typed_expr fs test known).expr ((resolved fs body).at known) (branch_in fs other known))
 resolved-If fs test body None token = resolved-If-none fs test body token
 resolved-If fs test body (Some other) token = resolved-If-some fs test body other token
 
 resolved-For-none-none : (fs : List ℕ) (test : Option Expr) (body : Stmt) (token : ℕ) →
     resolved fs (stmt.For None test None body token) ≡ only_resolved (λ known.
     Tree.For (branch_in fs None known) (part_in fs test (known ++ branch_declared fs None)) (branch_in fs None (known ++ branch_declared fs None)) ((resolved fs body).at (known ++ branch_declared fs None)))
-resolved-For-none-none fs test body token = ap (resolved fs) (sym (stmt.rolls-For None test None body token)) ∙ fold-roll-Stmt ResolvedStmt (stmt_step fs) (Stmt-F.For None test None body token)
+resolved-For-none-none fs test body token = ap (resolved fs) (sym (stmt.rolls-For None test None body token)) ∙ fold-roll-Stmt ResolvedStmt (resolved_step fs) (Stmt-F.For None test None body token)
 
 resolved-For-none-some : (fs : List ℕ) (test : Option Expr) (step : Stmt) (body : Stmt) (token : ℕ) →
     resolved fs (stmt.For None test (Some step) body token) ≡ only_resolved (λ known.
     Tree.For (branch_in fs None known) (part_in fs test (known ++ branch_declared fs None)) (branch_in fs (Some step) (known ++ branch_declared fs None)) ((resolved fs body).at (known ++ branch_declared fs None)))
-resolved-For-none-some fs test step body token = ap (resolved fs) (sym (stmt.rolls-For None test (Some step) body token)) ∙ fold-roll-Stmt ResolvedStmt (stmt_step fs) (Stmt-F.For None test (Some step) body token)
+resolved-For-none-some fs test step body token = ap (resolved fs) (sym (stmt.rolls-For None test (Some step) body token)) ∙ fold-roll-Stmt ResolvedStmt (resolved_step fs) (Stmt-F.For None test (Some step) body token)
 
 resolved-For-some-none : (fs : List ℕ) (first : Stmt) (test : Option Expr) (body : Stmt) (token : ℕ) →
     resolved fs (stmt.For (Some first) test None body token) ≡ only_resolved (λ known.
     Tree.For (branch_in fs (Some first) known) (part_in fs test (known ++ branch_declared fs (Some first))) (branch_in fs None (known ++ branch_declared fs (Some first))) ((resolved fs body).at (known ++ branch_declared fs (Some first))))
-resolved-For-some-none fs first test body token = ap (resolved fs) (sym (stmt.rolls-For (Some first) test None body token)) ∙ fold-roll-Stmt ResolvedStmt (stmt_step fs) (Stmt-F.For (Some first) test None body token)
+resolved-For-some-none fs first test body token = ap (resolved fs) (sym (stmt.rolls-For (Some first) test None body token)) ∙ fold-roll-Stmt ResolvedStmt (resolved_step fs) (Stmt-F.For (Some first) test None body token)
 
 resolved-For-some-some : (fs : List ℕ) (first : Stmt) (test : Option Expr) (step : Stmt) (body : Stmt) (token : ℕ) →
     resolved fs (stmt.For (Some first) test (Some step) body token) ≡ only_resolved (λ known.
     Tree.For (branch_in fs (Some first) known) (part_in fs test (known ++ branch_declared fs (Some first))) (branch_in fs (Some step) (known ++ branch_declared fs (Some first))) ((resolved fs body).at (known ++ branch_declared fs (Some first))))
-resolved-For-some-some fs first test step body token = ap (resolved fs) (sym (stmt.rolls-For (Some first) test (Some step) body token)) ∙ fold-roll-Stmt ResolvedStmt (stmt_step fs) (Stmt-F.For (Some first) test (Some step) body token)
+resolved-For-some-some fs first test step body token = ap (resolved fs) (sym (stmt.rolls-For (Some first) test (Some step) body token)) ∙ fold-roll-Stmt ResolvedStmt (resolved_step fs) (Stmt-F.For (Some first) test (Some step) body token)
 
 pub resolved-For : (fs : List ℕ) (first : Option Stmt) (test : Option Expr) (step : Option Stmt) (body : Stmt) (token : ℕ) →
     resolved fs (stmt.For first test step body token) ≡ only_resolved (λ known.

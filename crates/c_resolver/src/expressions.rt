@@ -1,8 +1,8 @@
 //! Expressions with their names resolved.
 ghost use Rattle.std.specs.Prelude.{◌≡◌, IfOk};
 ghost use Rattle.c_semantics.specs.ResolvedViews.{exprs_of};
-ghost use Rattle.c_resolver.specs.Resolving.{list_in, typed};
-ghost use Rattle.c_resolver.specs.ResolvingViews.{typed_of};
+ghost use Rattle.c_resolver.specs.Resolving.{typed_expr};
+ghost use Rattle.c_resolver.specs.ResolvingViews.{list_in, typed_of};
 
 use crate::names::{call_value, indexed, named};
 use crate::operators::{binary, unary};
@@ -22,7 +22,7 @@ pub fn typed(
     names: &Names,
     e: &Expr,
 ) -> Result<Typed, OutOfMemory>
-    ensures { IfOk result (λ t. typed_of t ≡ typed functions.now e.now names.now) }
+    ensures { IfOk result (λ t. typed_of t ≡ typed_expr functions.now e.now names.now) }
 {
     match e {
         Expr::Number {

@@ -1,8 +1,9 @@
 //! What items declare, with names resolved.
-ghost use Rattle.std.specs.Prelude.{◌≡◌, [], ◌∷◌, ◌++◌, IfOk, OnOk};
+ghost use Rattle.std.specs.Prelude.{◌≡◌, [], ◌∷◌, ◌++◌, map, IfOk, OnOk};
 ghost use Rattle.c_scopes.specs.Declarations.{class_of, declaration_of, declarations_of, entity_of, item_name, parameters_of, token_of};
 ghost use Rattle.c_semantics.specs.ResolvedViews.{function_of, functions_of, objects_of};
-ghost use Rattle.c_resolver.specs.Resolving.{function_in, function_tokens, functions_in, main_token, objects_in, parameters_in, constant_word, constant_words};
+ghost use Rattle.c_resolver.specs.Resolving.{function_in, function_tokens, functions_in, main_token, objects_in, constant_word};
+ghost use Rattle.c_resolver.specs.ResolvingViews.{parameters_in};
 
 use crate::statements::statements;
 use crate::typed::variable;
@@ -55,7 +56,7 @@ fn constant_word(value: Value) -> u32
 /// The words of the values of a constant.
 #[tactic(auto, using(crate::proofs::Programs::words))]
 fn constant_words(alloc: Global, values: &[Value]) -> Result<Items<u32>, OutOfMemory>
-    ensures { IfOk result (λ words. words ≡ constant_words values.now) }
+    ensures { IfOk result (λ words. words ≡ map constant_word values.now) }
 {
     let mut words = Items::new(alloc);
     for value in values {

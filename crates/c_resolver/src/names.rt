@@ -1,8 +1,9 @@
 //! What names stand for.
-ghost use Rattle.std.specs.Prelude.{◌≡◌, ◌+◌, ◌<◌, ◌^◌, Bool, IfOk, Some};
+ghost use Rattle.std.specs.Prelude.{◌≡◌, ◌+◌, ◌<◌, ◌^◌, Bool, IfOk};
 ghost use Rattle.c_scopes.specs.declared.declaration.Entity.TheVariants as Entity;
+ghost use Rattle.c_semantics.specs.ResolvedTree as Tree;
 ghost use Rattle.c_semantics.specs.ResolvedViews.{expr_of, exprs_of, part_of, stmt_of};
-ghost use Rattle.c_resolver.specs.Resolving.{assignment_to, call_of, call_value, indexed, is_unsigned, named, function_number};
+ghost use Rattle.c_resolver.specs.Resolving.{assignment_to, by_binding, call_of, call_value, element_value, function_number, is_unsigned, name_value, nothing};
 ghost use Rattle.c_resolver.specs.ResolvingViews.{typed_of};
 
 use crate::typed::{Typed, nothing, variable};
@@ -16,7 +17,7 @@ use std::alloc::Global;
 
 /// A name for its value.
 pub fn named(binding: Option<Binding>) -> Typed
-    ensures { typed_of result ≡ named binding }
+    ensures { typed_of result ≡ by_binding nothing name_value binding }
 {
     match binding {
         None => nothing(),
@@ -49,7 +50,7 @@ pub fn indexed(
     at: u32,
     index: Expr,
 ) -> Result<Typed, OutOfMemory>
-    ensures { IfOk result (λ t. typed_of t ≡ indexed binding at (expr_of index)) }
+    ensures { IfOk result (λ t. typed_of t ≡ by_binding nothing (element_value at (expr_of index)) binding) }
 {
     match binding {
         None => Ok(nothing()),
@@ -94,7 +95,7 @@ pub fn function_number(functions: &[u32], token: u32) -> usize
 /// A call for its value.
 #[tactic(auto, using(crate::proofs::Lists::called_form))]
 pub fn call_value(functions: &[u32], binding: Option<Binding>, given: Items<Expr>) -> Typed
-    ensures { typed_of result ≡ call_value functions.now binding (exprs_of given) }
+    ensures { typed_of result ≡ by_binding nothing (call_value functions.now (exprs_of given)) binding }
 {
     match binding {
         None => nothing(),
@@ -125,7 +126,8 @@ fn is_unsigned(kind: Kind3) -> bool
 
 /// An assignment to a name, which is token `at`. A sign `[` is the token after it.
 pub fn assigned(binding: Option<Binding>, at: u32, index: Option<Expr>, value: Expr) -> Stmt
-    ensures { stmt_of result ≡ assignment_to binding at (part_of index) (expr_of value) }
+    ensures { stmt_of result ≡ by_binding Tree.Empty
+        (λ declared entity. assignment_to at (expr_of value) declared entity (part_of index)) binding }
 {
     match binding {
         None => Stmt::Empty,
@@ -157,7 +159,7 @@ fn assigned_global(
     index: Option<Expr>,
     value: Expr,
 ) -> Stmt
-    ensures { stmt_of result ≡ assignment_to (Some (record { token = token; entity = Entity.Object class unsigned length })) at (part_of index) (expr_of value) }
+    ensures { stmt_of result ≡ assignment_to at (expr_of value) token (Entity.Object class unsigned length) (part_of index) }
 {
     match index {
         None => Stmt::Assign {
@@ -179,7 +181,7 @@ fn assigned_global(
 
 /// A call that stands as a statement.
 pub fn call_of(functions: &[u32], binding: Option<Binding>, given: Items<Expr>) -> Stmt
-    ensures { stmt_of result ≡ call_of functions.now binding (exprs_of given) }
+    ensures { stmt_of result ≡ by_binding Tree.Empty (call_of functions.now (exprs_of given)) binding }
 {
     match binding {
         None => Stmt::Empty,

@@ -1,7 +1,7 @@
 //! Operators by the types of their operands (ISO/IEC 9899, sections 6.3.1.8 and 6.5).
-ghost use Rattle.std.specs.Prelude.{◌≡◌, IfOk};
+ghost use Rattle.std.specs.Prelude.{◌≡◌, cond, IfOk};
 ghost use Rattle.c_token.specs.declared.signs.Sign.TheVariants.{LogicalAnd, LogicalOr};
-ghost use Rattle.c_resolver.specs.Resolving.{arithmetic, binary_of, by_type, comparison, shift, unary_value};
+ghost use Rattle.c_resolver.specs.Resolving.{arithmetic, binary_of, comparison, shift, unary_value};
 ghost use Rattle.c_semantics.specs.ResolvedTree as Tree;
 ghost use Rattle.c_semantics.specs.ResolvedViews.{expr_of};
 ghost use Rattle.c_resolver.specs.ResolvingViews.{typed_of};
@@ -15,7 +15,7 @@ use std::alloc::Global;
 
 /// An operator that reads its operands as `int`, or as `unsigned`.
 fn by_type(unsigned: bool, as_int: BinaryOp, as_unsigned: BinaryOp) -> BinaryOp
-    ensures { result ≡ by_type unsigned as_int as_unsigned }
+    ensures { result ≡ cond unsigned as_unsigned as_int }
 {
     if unsigned {
         return as_unsigned;

@@ -1,7 +1,8 @@
 //! Statements with their names resolved.
 ghost use Rattle.std.specs.Prelude.{◌≡◌, ◌++◌, IfOk, OnOk};
 ghost use Rattle.c_semantics.specs.ResolvedViews.{branch_of, expr_of, part_of, stmt_of, stmts_of};
-ghost use Rattle.c_resolver.specs.Resolving.{body_declared, body_in, branch_declared, branch_in, part_in, resolved, typed};
+ghost use Rattle.c_resolver.specs.Resolving.{part_in, resolved, typed_expr};
+ghost use Rattle.c_resolver.specs.ResolvingViews.{body_declared, body_in, branch_declared, branch_in};
 
 use crate::expressions::{listed, typed};
 use crate::names::{assigned, call_of};

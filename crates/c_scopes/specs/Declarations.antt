@@ -1,5 +1,5 @@
 -- Promise: what the items of a program, its parameters and its locals declare.
-use Rattle.std.specs.Prelude.{ℕ, Bool, true, false, List, [], ◌∷◌, length}
+use Rattle.std.specs.Prelude.{ℕ, Bool, true, false, List, length, map}
 use Rattle.regions.specs.declared.rights.Class.{Class}
 use Rattle.regions.specs.declared.rights.Class.TheVariants as class
 use Rattle.c_grammar.specs.declared.item.Kind3.TheVariants.{Void}
@@ -46,8 +46,7 @@ declaration_of item = record { name = item_name item; binding = record { token =
 
 -- what items declare
 abbrev pub declarations_of : List Item → List Declaration
-declarations_of [] = []
-declarations_of (item ∷ items) = declaration_of item ∷ declarations_of items
+declarations_of items = map declaration_of items
 
 -- a local, which is not known in its own value
 abbrev pub local : Bool → List ℕ → ℕ → Declaration
@@ -59,5 +58,4 @@ parameter p = local p.unsigned p.name p.token
 
 -- what parameters declare
 abbrev pub parameters_of : List Parameter → List Declaration
-parameters_of [] = []
-parameters_of (p ∷ ps) = parameter p ∷ parameters_of ps
+parameters_of ps = map parameter ps

@@ -13,7 +13,8 @@ use Rattle.c_types.specs.declared.site.Site.{Site}
 use Rattle.c_types.specs.declared.site.Site.TheVariants as site
 use Rattle.c_scopes.specs.Scopes.{is_again, declares}
 use Rattle.c_scopes.specs.Declarations.{parameter, parameters_of, declaration_of, declarations_of}
-use Rattle.c_types.specs.Sites.{Place, place_after, parameter_sites, body_sites, in_function, item_sites}
+use Rattle.c_types.specs.Sites.{Place, place_after, parameter_sites, in_function, item_sites}
+use Rattle.c_types.specs.Walks.{body_sites}
 use Rattle.c_types.specs.TypingRules.{IsFirst}
 use Rattle.c_types.specs.TypingRules.Violates.{by_site}
 use Rattle.c_types.specs.TypingRules.Breaks.{parameter_too_many}

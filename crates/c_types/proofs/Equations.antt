@@ -15,21 +15,14 @@ use Rattle.c_types.specs.declared.site.How.TheVariants.{Value, Element, Call, Ca
 use Rattle.c_types.specs.declared.site.Site.TheVariants as site
 use Rattle.c_scopes.specs.Scopes.{is_again}
 use Rattle.c_scopes.specs.Declarations.{local}
-use Rattle.c_types.specs.Sites.{ExprSites, expr_sites_step, expr_sites, use_of, exprs_in_turn, list_sites, part_sites, Place, place_after, inner_scope, looped, StmtSites, stmts_in_turn, assign, stmt_sites_step, stmt_sites, branch_sites, body_sites}
+use Rattle.c_types.specs.Sites.{ExprSites, expr_sites_step, expr_sites, use_of, exprs_in_turn, part_sites, Place, place_after, inner_scope, looped, StmtSites, assign, stmt_sites_step, stmt_sites}
+use Rattle.c_types.specs.Walks.{list_sites, branch_sites, body_sites}
 
 -- ---- lists
 
 length-map_sites : (es : List Expr) → length (map expr_sites es) ≡ length es
 length-map_sites [] = refl
 length-map_sites (e ∷ es) = omega (arith, length-map_sites es)
-
-exprs_in_turn-map : (es : List Expr) (known : List Declaration) (home : Home) → exprs_in_turn (map expr_sites es) known home ≡ list_sites es known home
-exprs_in_turn-map [] known home = refl
-exprs_in_turn-map (e ∷ es) known home = ap (λ sites. expr_sites e known home ++ sites) (exprs_in_turn-map es known home)
-
-stmts_in_turn-map : (ss : List Stmt) (place : Place) → stmts_in_turn (map stmt_sites ss) place ≡ body_sites ss place
-stmts_in_turn-map [] place = refl
-stmts_in_turn-map (s ∷ ss) place = ap (λ sites. (stmt_sites s).sites place ++ sites) (stmts_in_turn-map ss (place_after (stmt_sites s).declared place))
 
 -- ---- expressions
 
@@ -45,7 +38,6 @@ expr_sites-Index name index token known home = ap (λ e. expr_sites e known home
 pub expr_sites-Call : (name : List ℕ) (arguments : List Expr) (token : ℕ) (known : List Declaration) (home : Home) → expr_sites (expr.Call name arguments token) known home ≡ use_of (CallValue (length arguments)) known home name token ∷ list_sites arguments known home
 expr_sites-Call name arguments token known home = ap (λ e. expr_sites e known home) (sym (expr.rolls-Call name arguments token)) ∙ ap (λ sites. sites known home) (fold-roll-Expr ExprSites expr_sites_step (Expr-F.Call name arguments token))
     ∙ ap (λ n. use_of (CallValue n) known home name token ∷ exprs_in_turn (map expr_sites arguments) known home) (length-map_sites arguments)
-    ∙ ap (λ sites. use_of (CallValue (length arguments)) known home name token ∷ sites) (exprs_in_turn-map arguments known home)
 
 pub expr_sites-Input : (token : ℕ) (known : List Declaration) (home : Home) → expr_sites (expr.Input token) known home ≡ []
 expr_sites-Input token known home = ap (λ e. expr_sites e known home) (sym (expr.rolls-Input token)) ∙ ap (λ sites. sites known home) (fold-roll-Expr ExprSites expr_sites_step (Expr-F.Input token))
@@ -147,7 +139,6 @@ stmt_sites-For (Some first) test (Some step) body token = stmt_sites-For-some-so
 pub stmt_sites-Block : (body : List Stmt) (token : ℕ) (place : Place) → (stmt_sites (stmt.Block body token)).sites place ≡ body_sites body (inner_scope place)
 stmt_sites-Block body token place =
     ap (λ s. s.sites place) (ap stmt_sites (sym (stmt.rolls-Block body token)) ∙ fold-roll-Stmt StmtSites stmt_sites_step (Stmt-F.Block body token))
-    ∙ stmts_in_turn-map body (inner_scope place)
 
 pub stmt_declared-Block : (body : List Stmt) (token : ℕ) → (stmt_sites (stmt.Block body token)).declared ≡ []
 stmt_declared-Block body token =

@@ -7,20 +7,17 @@ use Rattle.c_grammar.specs.declared.item.Kind3.TheVariants.{Int, Unsigned, Void}
 use Rattle.c_grammar.specs.declared.item.Item.{Item}
 use Rattle.c_grammar.specs.declared.item.Program.{Program}
 use Rattle.c_scopes.specs.declared.declaration.Binding.{Binding}
-use Rattle.c_scopes.specs.declared.declaration.Entity.{Entity}
-use Rattle.c_scopes.specs.declared.declaration.Entity.TheVariants.{Local, Object, Function}
 use Rattle.c_types.specs.declared.site.Home.{Home}
 use Rattle.c_types.specs.declared.site.How.{How}
-use Rattle.c_types.specs.declared.site.How.TheVariants.{Value, Element, Assign, AssignElement, Call, CallValue}
 use Rattle.c_types.specs.declared.site.Rule.{Rule}
 use Rattle.c_types.specs.declared.site.Rule.TheVariants.{Unknown, Twice, Recursive, Class, Shape, Arity, TooLong, TooMany}
 use Rattle.c_types.specs.declared.site.Site.{Site}
 use Rattle.c_types.specs.declared.site.Site.TheVariants as site
 use Rattle.c_types.specs.declared.verdict.Fault.{Fault}
 use Rattle.c_types.specs.declared.verdict.Verdict.{Verdict}
-use Rattle.c_types.specs.TypingRules.{is_call, is_whole, is_indexed, is_assignment, is_function, is_array, is_scalar, is_constant, is_private_object, is_void, is_without_value, HasArguments, Breaks, Stands, Violates, IsFirst, at_token, is_local, rule_order}
-use Rattle.c_types.specs.TypingRules.Breaks.{unknown, twice_local, twice_parameter, twice_global, self_call, constant_assigned, private_outside, array_whole, scalar_indexed, object_called, function_named, no_value, list_for_scalar, value_for_array, values_too_many, value_returned, nothing_returned, outside_loop, other_number, no_elements, too_long, global_too_many, parameter_too_many}
-use Rattle.c_types.specs.Verdicts.{misfits, differs_from, miscounts, is_barred, known_rule, use_rule, name_rule, shape_rule, misgiven, misreturns, site_rule, one_more, locals_after, is_sooner, sooner, with_rule, note, noted, afresh}
+use Rattle.c_types.specs.TypingRules.{is_call, is_assignment, is_constant, is_private_object, is_void, fits, is_counted, Breaks, Stands, Violates, IsFirst, at_token, is_local, rule_order}
+use Rattle.c_types.specs.TypingRules.Breaks.{unknown, twice_local, twice_parameter, twice_global, self_call, constant_assigned, private_outside, misused, list_for_scalar, value_for_array, values_too_many, value_returned, nothing_returned, outside_loop, miscounted, no_elements, too_long, global_too_many, parameter_too_many}
+use Rattle.c_types.specs.Verdicts.{is_barred, known_rule, use_rule, name_rule, shape_rule, misgiven, misreturns, site_rule, one_more, is_sooner, sooner, with_rule, note, noted, afresh}
 use Rattle.c_scopes.specs.Declarations.{declaration_of, declarations_of}
 use Rattle.c_types.specs.Sites.{ItemFollows, item_sites}
 use Rattle.c_types.specs.Walks.{items_noted}
@@ -62,41 +59,9 @@ arity_told false false true d e = omega arith
 arity_told false false false true e = omega arith
 arity_told false false false false e = absurd (cc)
 
-whole_misfits : (how : How) (entity : Entity) → is_whole how ≡ true → is_array entity ≡ true → misfits how entity ≡ true
-whole_misfits Value entity h e = rw e refl
-whole_misfits Element entity h e = absurd (cc)
-whole_misfits Assign entity h e = rw e refl
-whole_misfits AssignElement entity h e = absurd (cc)
-whole_misfits (Call arguments) entity h e = absurd (cc)
-whole_misfits (CallValue arguments) entity h e = absurd (cc)
-
-indexed_misfits : (how : How) (entity : Entity) → is_indexed how ≡ true → is_scalar entity ≡ true → misfits how entity ≡ true
-indexed_misfits Value entity h e = absurd (cc)
-indexed_misfits Element entity h e = rw e refl
-indexed_misfits Assign entity h e = absurd (cc)
-indexed_misfits AssignElement entity h e = rw e refl
-indexed_misfits (Call arguments) entity h e = absurd (cc)
-indexed_misfits (CallValue arguments) entity h e = absurd (cc)
-
-called_misfits : (how : How) (entity : Entity) → is_call how ≡ true → is_function entity ≡ false → misfits how entity ≡ true
-called_misfits Value entity h e = absurd (cc)
-called_misfits Element entity h e = absurd (cc)
-called_misfits Assign entity h e = absurd (cc)
-called_misfits AssignElement entity h e = absurd (cc)
-called_misfits (Call arguments) entity h e = rw e refl
-called_misfits (CallValue arguments) entity h e = rw e refl
-
 or_true : (a b : Bool) → b ≡ true → (a || b) ≡ true
 or_true true b e = refl
 or_true false b e = e
-
-named_misfits : (how : How) (entity : Entity) → is_call how ≡ false → is_function entity ≡ true → misfits how entity ≡ true
-named_misfits Value entity h e = or_true (is_array entity) (is_function entity) e
-named_misfits Element entity h e = or_true (is_scalar entity) (is_function entity) e
-named_misfits Assign entity h e = or_true (is_array entity) (is_function entity) e
-named_misfits AssignElement entity h e = or_true (is_scalar entity) (is_function entity) e
-named_misfits (Call arguments) entity h e = absurd (cc)
-named_misfits (CallValue arguments) entity h e = absurd (cc)
 
 and_true : (a b : Bool) → a ≡ true → b ≡ true → (a && b) ≡ true
 and_true true b h e = e
@@ -104,18 +69,6 @@ and_true false b h e = absurd (cc)
 
 is_same : (m n : ℕ) → m ≡ n → (m == n) ≡ true
 is_same m n e = grind (arith, nat_tests)
-
-differs : (m n : ℕ) → m ≢ n → not (m == n) ≡ true
-differs m n e = grind (arith, nat_tests)
-
-counted : (how : How) (entity : Entity) (result : Kind3) (untrusted : Bool) (arguments parameters : ℕ) →
-    HasArguments how arguments → entity ≡ Function result untrusted parameters → arguments ≢ parameters → miscounts how entity ≡ true
-counted Value entity result untrusted arguments parameters h e ne = absurd h
-counted Element entity result untrusted arguments parameters h e ne = absurd h
-counted Assign entity result untrusted arguments parameters h e ne = absurd h
-counted AssignElement entity result untrusted arguments parameters h e ne = absurd h
-counted (Call n) entity result untrusted arguments parameters h e ne = rw (e, h) (differs arguments parameters ne)
-counted (CallValue n) entity result untrusted arguments parameters h e ne = rw (e, h) (differs arguments parameters ne)
 
 barred_left : (a b c d : Bool) → a ≡ true → b ≡ true → ((a && b) || (c && d)) ≡ true
 barred_left true true c d h e = refl
@@ -155,29 +108,16 @@ breaks_told locals _ _ (twice_local at) = omega arith
 breaks_told locals _ _ (twice_parameter number at) = omega arith
 breaks_told locals _ _ (twice_global number at) = omega arith
 breaks_told locals _ _ (self_call how d home at call same) =
-    recursive_told (is_call how && (d.token == home.token)) (is_barred how d.entity home) (misfits how d.entity) (miscounts how d.entity)
+    recursive_told (is_call how && (d.token == home.token)) (is_barred how d.entity home) (not (fits how d.entity)) (not (is_counted how d.entity))
     (and_true (is_call how) (d.token == home.token) call (is_same d.token home.token same))
 breaks_told locals _ _ (constant_assigned how d home at assigned constant) =
-    class_told (is_call how && (d.token == home.token)) (is_barred how d.entity home) (misfits how d.entity) (miscounts how d.entity)
+    class_told (is_call how && (d.token == home.token)) (is_barred how d.entity home) (not (fits how d.entity)) (not (is_counted how d.entity))
     (barred_left (is_assignment how) (is_constant d.entity) (is_private_object d.entity) (not home.private) assigned constant)
 breaks_told locals _ _ (private_outside how d home at private outside) =
-    class_told (is_call how && (d.token == home.token)) (is_barred how d.entity home) (misfits how d.entity) (miscounts how d.entity)
+    class_told (is_call how && (d.token == home.token)) (is_barred how d.entity home) (not (fits how d.entity)) (not (is_counted how d.entity))
     (barred_right (is_assignment how) (is_constant d.entity) (is_private_object d.entity) home.private private outside)
-breaks_told locals _ _ (array_whole how d home at whole array) =
-    shape_told (is_call how && (d.token == home.token)) (is_barred how d.entity home) (misfits how d.entity) (miscounts how d.entity)
-    (whole_misfits how d.entity whole array)
-breaks_told locals _ _ (scalar_indexed how d home at indexed scalar) =
-    shape_told (is_call how && (d.token == home.token)) (is_barred how d.entity home) (misfits how d.entity) (miscounts how d.entity)
-    (indexed_misfits how d.entity indexed scalar)
-breaks_told locals _ _ (object_called how d home at call object) =
-    shape_told (is_call how && (d.token == home.token)) (is_barred how d.entity home) (misfits how d.entity) (miscounts how d.entity)
-    (called_misfits how d.entity call object)
-breaks_told locals _ _ (function_named how d home at call function) =
-    shape_told (is_call how && (d.token == home.token)) (is_barred how d.entity home) (misfits how d.entity) (miscounts how d.entity)
-    (named_misfits how d.entity call function)
-breaks_told locals _ _ (no_value arguments d home at nothing) =
-    shape_told (d.token == home.token) (is_barred (CallValue arguments) d.entity home) (misfits (CallValue arguments) d.entity) (miscounts (CallValue arguments) d.entity)
-    (or_true (not (is_function d.entity)) (is_without_value d.entity) nothing)
+breaks_told locals _ _ (misused how d home at misfit) =
+    shape_told (is_call how && (d.token == home.token)) (is_barred how d.entity home) (not (fits how d.entity)) (not (is_counted how d.entity)) (ap not misfit)
 breaks_told locals _ _ (list_for_scalar values at) = omega arith
 breaks_told locals _ _ (value_for_array length values at) = omega arith
 breaks_told locals _ _ (values_too_many length values at braces more) =
@@ -185,9 +125,8 @@ breaks_told locals _ _ (values_too_many length values at braces more) =
 breaks_told locals _ _ (value_returned at) = omega arith
 breaks_told locals _ _ (nothing_returned result at void) = shape_is_told (misreturns result false) (return_misfit result void)
 breaks_told locals _ _ (outside_loop at) = omega arith
-breaks_told locals _ _ (other_number how d home at result untrusted arguments parameters has is differ) =
-    arity_told (is_call how && (d.token == home.token)) (is_barred how d.entity home) (misfits how d.entity) (miscounts how d.entity)
-    (counted how d.entity result untrusted arguments parameters has is differ)
+breaks_told locals _ _ (miscounted how d home at differ) =
+    arity_told (is_call how && (d.token == home.token)) (is_barred how d.entity home) (not (fits how d.entity)) (not (is_counted how d.entity)) (ap not differ)
 breaks_told locals _ _ (no_elements length at zero) = length_told (length == 0) (nat_lt 65536 length) (rw (is_same length 0 zero) refl)
 breaks_told locals _ _ (too_long length at long) =
     length_told (length == 0) (nat_lt 65536 length) (or_true (length == 0) (nat_lt 65536 length) (grind (arith, nat_tests)))
@@ -247,61 +186,16 @@ barred_breaks how d home at e =
       | inr h ↦ private_outside how d home at (and_left (is_private_object d.entity) (not home.private) h) (not_true home.private (and_right (is_private_object d.entity) (not home.private) h))
     ]
 
-misfit_breaks : (how : How) (d : Binding) (home : Home) (at : ℕ) → misfits how d.entity ≡ true → Breaks (site.Use how (Some d) home at) Shape
-misfit_breaks Value d home at e = elim (or_cases (is_array d.entity) (is_function d.entity) e) [
-  | inl h ↦ array_whole Value d home at refl h
-  | inr h ↦ function_named Value d home at refl h
-]
-misfit_breaks Element d home at e = elim (or_cases (is_scalar d.entity) (is_function d.entity) e) [
-  | inl h ↦ scalar_indexed Element d home at refl h
-  | inr h ↦ function_named Element d home at refl h
-]
-misfit_breaks Assign d home at e = elim (or_cases (is_array d.entity) (is_function d.entity) e) [
-  | inl h ↦ array_whole Assign d home at refl h
-  | inr h ↦ function_named Assign d home at refl h
-]
-misfit_breaks AssignElement d home at e = elim (or_cases (is_scalar d.entity) (is_function d.entity) e) [
-  | inl h ↦ scalar_indexed AssignElement d home at refl h
-  | inr h ↦ function_named AssignElement d home at refl h
-]
-misfit_breaks (Call arguments) d home at e = object_called (Call arguments) d home at refl (not_true (is_function d.entity) e)
-misfit_breaks (CallValue arguments) d home at e = elim (or_cases (not (is_function d.entity)) (is_without_value d.entity) e) [
-  | inl h ↦ object_called (CallValue arguments) d home at refl (not_true (is_function d.entity) h)
-  | inr h ↦ no_value arguments d home at h
-]
-
-not_same : (m n : ℕ) → not (m == n) ≡ true → m ≢ n
-not_same m n e = grind (arith, nat_tests)
-
--- the function whose parameters are counted
-differs_by : (entity : Entity) (arguments : ℕ) → differs_from entity arguments ≡ true →
-    (result : Kind3) × (untrusted : Bool) × (parameters : ℕ) × (entity ≡ Function result untrusted parameters) × (arguments ≢ parameters)
-differs_by (Local unsigned) arguments e = absurd (cc)
-differs_by (Object class unsigned length) arguments e = absurd (cc)
-differs_by (Function result untrusted parameters) arguments e = (result, untrusted, parameters, refl, not_same arguments parameters e)
-
-count_breaks : (how : How) (d : Binding) (home : Home) (at : ℕ) → miscounts how d.entity ≡ true → Breaks (site.Use how (Some d) home at) Arity
-count_breaks Value d home at e = absurd (cc)
-count_breaks Element d home at e = absurd (cc)
-count_breaks Assign d home at e = absurd (cc)
-count_breaks AssignElement d home at e = absurd (cc)
-count_breaks (Call n) d home at e =
-    let by = differs_by d.entity n e in
-    other_number (Call n) d home at by.0 by.1 n by.2 refl by.3 by.4
-count_breaks (CallValue n) d home at e =
-    let by = differs_by d.entity n e in
-    other_number (CallValue n) d home at by.0 by.1 n by.2 refl by.3 by.4
-
 known_breaks : (how : How) (d : Binding) (home : Home) (at : ℕ) (rule : Rule) → known_rule how d home ≡ Some rule → Breaks (site.Use how (Some d) home at) rule
 known_breaks how d home at rule e =
-    elim (known_cases (is_call how && (d.token == home.token)) (is_barred how d.entity home) (misfits how d.entity) (miscounts how d.entity) rule e) [
+    elim (known_cases (is_call how && (d.token == home.token)) (is_barred how d.entity home) (not (fits how d.entity)) (not (is_counted how d.entity)) rule e) [
       | inl h ↦ subst (λ r. Breaks (site.Use how (Some d) home at) r) (sym h.1)
           (self_call how d home at (and_left (is_call how) (d.token == home.token) h.0) (same_is d.token home.token (and_right (is_call how) (d.token == home.token) h.0)))
       | inr g ↦ elim g [
         | inl h ↦ subst (λ r. Breaks (site.Use how (Some d) home at) r) (sym h.1) (barred_breaks how d home at h.0)
         | inr f ↦ elim f [
-          | inl h ↦ subst (λ r. Breaks (site.Use how (Some d) home at) r) (sym h.1) (misfit_breaks how d home at h.0)
-          | inr h ↦ subst (λ r. Breaks (site.Use how (Some d) home at) r) (sym h.1) (count_breaks how d home at h.0)
+          | inl h ↦ subst (λ r. Breaks (site.Use how (Some d) home at) r) (sym h.1) (misused how d home at (not_true (fits how d.entity) h.0))
+          | inr h ↦ subst (λ r. Breaks (site.Use how (Some d) home at) r) (sym h.1) (miscounted how d home at (not_true (is_counted how d.entity) h.0))
         ]
       ]
     ]
@@ -484,20 +378,10 @@ Comes-breaks v front back s rule breaks =
 
 -- ---- the number of locals
 
-after_is : (locals : ℕ) (s : Site) → locals_after locals s ≡ cond (is_local s) (one_more locals) locals
-after_is locals (site.Use how means home at) = refl
-after_is locals (site.Local again at) = refl
-after_is locals (site.Parameter number again at) = refl
-after_is locals (site.Return result value at) = refl
-after_is locals (site.Jump in_loop at) = refl
-after_is locals (site.Global number again at) = refl
-after_is locals (site.Length length at) = refl
-after_is locals (site.Constant length values braces at) = refl
-
 one_more_is : (locals : ℕ) → locals ≤ 257 → one_more locals ≡ min (locals + 1) 257
 one_more_is locals le = grind (arith, nat_tests)
 
-note_locals : (v : Verdict) (s : Site) → (note v s).locals ≡ locals_after v.locals s
+note_locals : (v : Verdict) (s : Site) → (note v s).locals ≡ cond (is_local s) (one_more v.locals) v.locals
 unfolding note
 note_locals v s = refl
 
@@ -525,7 +409,7 @@ count_step s ss =
 noted_locals : (v : Verdict) (ss : List Site) → v.locals ≤ 257 → (noted v ss).locals ≡ min (v.locals + count_by is_local ss) 257
 noted_locals v [] le = omega arith
 noted_locals v (s ∷ ss) le =
-    let after : (note v s).locals ≡ cond (is_local s) (one_more v.locals) v.locals = note_locals v s ∙ after_is v.locals s in
+    let after = note_locals v s in
     noted_locals (note v s) ss (counted_limit (is_local s) v.locals (note v s).locals le after)
     ∙ counted_step (is_local s) v.locals (count_by is_local ss) (note v s).locals le after
     ∙ ap (λ n. min (v.locals + n) 257) (sym (count_step s ss))

@@ -6,8 +6,8 @@ use Rattle.c_scopes.specs.declared.declaration.Declaration.{Declaration}
 use Rattle.c_types.specs.declared.site.Home.{Home}
 use Rattle.c_grammar.specs.declared.stmt.Stmt.{Stmt}
 use Rattle.c_grammar.specs.declared.stmt.Stmt.TheVariants as stmt
-use Rattle.c_types.specs.Sites.{expr_sites, list_sites, part_sites, Place, inner_scope, looped, place_after, stmt_sites, branch_sites, body_sites}
-use Rattle.c_types.specs.Walks.{declared_in}
+use Rattle.c_types.specs.Sites.{expr_sites, part_sites, Place, inner_scope, looped, place_after, stmt_sites}
+use Rattle.c_types.specs.Walks.{declared_in, list_sites, branch_sites, body_sites}
 use Rattle.c_types.proofs.Equations.{stmt_sites-If, stmt_sites-While, stmt_sites-For}
 use Rattle.c_types.specs.declared.site.Site.{Site}
 use Rattle.c_types.specs.declared.verdict.Verdict.{Verdict}

@@ -6,7 +6,7 @@ use Rattle.aegis_num.specs.declared.limits.TheConstants.{MAX_SOURCE_BYTES, MAX_P
 use Rattle.c_token.specs.declared.kinds.Kind.{Kind}
 use Rattle.regions.specs.declared.rights.Class.TheVariants as class
 use Rattle.c_grammar.specs.declared.item.Kind3.{Kind3}
-use Rattle.c_grammar.specs.declared.item.Kind3.TheVariants.{Int, Unsigned, Void}
+use Rattle.c_grammar.specs.declared.item.Kind3.TheVariants.{Int, Void}
 use Rattle.c_grammar.specs.declared.item.Item.{Item}
 use Rattle.c_grammar.specs.declared.item.Item.TheVariants as item
 use Rattle.c_grammar.specs.declared.item.Program.{Program}
@@ -30,16 +30,13 @@ KeepsRules p = (at : ℕ) (rule : Rule) → Violates p at rule → ⊥
 
 abbrev pub is_int : Kind3 → Bool
 is_int Int = true
-is_int Unsigned = false
-is_int Void = false
+is_int other = false
 
 -- a function `main` that answers int, takes nothing and is not private
 abbrev pub is_main : Item → Bool
-is_main (item.Object class unsigned name length token) = false
-is_main (item.Constant unsigned name length values braces token) = false
-is_main (item.Untrusted name token) = false
 is_main (item.Function private result name parameters body token) =
     bytes_eq name (codes "main") && is_int result && (length parameters == 0) && not private
+is_main other = false
 
 abbrev pub has_main : List Item → Bool
 has_main items = list_any is_main items
@@ -55,8 +52,7 @@ listed_object (item.Object storage unsigned name length token) =
     Some (record { name = name; class = class_of storage; unsigned = unsigned; length = length })
 listed_object (item.Constant unsigned name length values braces token) =
     Some (record { name = name; class = class.Constant; unsigned = unsigned; length = length })
-listed_object (item.Untrusted name token) = None
-listed_object (item.Function private result name parameters body token) = None
+listed_object other = None
 
 -- the objects and constants of items, in order
 abbrev pub listed_objects : List Item → List Object
@@ -64,12 +60,11 @@ listed_objects items = filter_map listed_object items
 
 -- a function
 abbrev pub listed_function : Item → Option Function
-listed_function (item.Object storage unsigned name length token) = None
-listed_function (item.Constant unsigned name length values braces token) = None
 listed_function (item.Untrusted name token) =
     Some (record { name = name; private = false; untrusted = true; result = Void; parameters = 0 })
 listed_function (item.Function private result name parameters body token) =
     Some (record { name = name; private = private; untrusted = false; result = result; parameters = length parameters })
+listed_function other = None
 
 -- the functions of items, in order
 abbrev pub listed_functions : List Item → List Function
@@ -77,10 +72,8 @@ listed_functions items = filter_map listed_function items
 
 -- a function has no more parameters than the limit
 abbrev pub HasFewParameters : Item → Type 0
-HasFewParameters (item.Object storage unsigned name length token) = Unit {0}
-HasFewParameters (item.Constant unsigned name length values braces token) = Unit {0}
-HasFewParameters (item.Untrusted name token) = Unit {0}
 HasFewParameters (item.Function private result name parameters body token) = length parameters ≤ MAX_PARAMETERS
+HasFewParameters other = Unit {0}
 
 -- the error of a rule that is broken at a token
 abbrev pub error_at : ℕ → Rule → TypeError

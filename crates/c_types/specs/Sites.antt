@@ -1,6 +1,6 @@
 -- Promise: the sites of a program: its places at which a typing rule may be broken, in the order of the source, each with
 -- what is known there. A declaration is known from after it to the end of its scope.
-use Rattle.std.specs.Prelude.{◌≡◌, ℕ, ◌+◌, ◌-◌, Bool, true, false, List, [], ◌∷◌, ◌++◌, length, Option, Some, None, is_some}
+use Rattle.std.specs.Prelude.{◌≡◌, ℕ, ◌+◌, ◌-◌, Bool, true, false, List, [], ◌∷◌, ◌++◌, length, map, Option, Some, None, is_some}
 use Rattle.c_grammar.specs.declared.expr.Expr.{Expr}
 use Rattle.c_grammar.specs.declared.expr.Expr.TheOpen.{Expr-F}
 use Rattle.c_grammar.specs.declared.expr.Expr.TheFolds.{fold-Expr}
@@ -53,11 +53,6 @@ expr_sites = fold-Expr ExprSites expr_sites_step
 abbrev pub part_sites : Option Expr → ExprSites
 part_sites None known home = []
 part_sites (Some e) known home = expr_sites e known home
-
--- the sites of expressions, one after the other
-abbrev pub list_sites : List Expr → ExprSites
-list_sites [] known home = []
-list_sites (e ∷ es) known home = expr_sites e known home ++ list_sites es known home
 
 -- where a statement stands: its scope, its function, and whether it is inside a loop
 pub record Place : Type 0 where
@@ -114,7 +109,7 @@ stmt_sites_step (Stmt-F.Assign name index value token) = only_sites (λ place.
     ∷ (part_sites index place.scope.known place.home ++ expr_sites value place.scope.known place.home))
 stmt_sites_step (Stmt-F.Call name arguments token) = only_sites (λ place.
     use_of (Call (length arguments)) place.scope.known place.home name token
-    ∷ list_sites arguments place.scope.known place.home)
+    ∷ exprs_in_turn (map expr_sites arguments) place.scope.known place.home)
 stmt_sites_step (Stmt-F.Release value token) = only_sites (λ place. expr_sites value place.scope.known place.home)
 stmt_sites_step (Stmt-F.Check token) = only_sites (λ place. [])
 stmt_sites_step (Stmt-F.Return value token) = only_sites (λ place.
@@ -134,16 +129,6 @@ stmt_sites_step (Stmt-F.For first test step body token) = only_sites (λ place.
 abbrev pub stmt_sites : Stmt → StmtSites
 stmt_sites = fold-Stmt StmtSites stmt_sites_step
 
--- what a statement that need not be there declares, and its sites
-abbrev pub branch_sites : Option Stmt → StmtSites
-branch_sites None = only_sites (λ place. [])
-branch_sites (Some s) = stmt_sites s
-
--- the sites of statements, one after the other
-abbrev pub body_sites : List Stmt → Place → List Site
-body_sites [] place = []
-body_sites (s ∷ ss) place = (stmt_sites s).sites place ++ body_sites ss (place_after (stmt_sites s).declared place)
-
 -- the length of an array stands after its name and the sign `[`
 abbrev pub length_sites : Option ℕ → ℕ → List Site
 length_sites None token = []
@@ -158,7 +143,7 @@ parameter_sites number (p ∷ ps) place =
 -- Parameters and the outermost block of the body are one scope.
 abbrev pub function_sites : List Parameter → List Stmt → Place → List Site
 function_sites parameters body place =
-    parameter_sites 0 parameters place ++ body_sites body (place_after (parameters_of parameters) place)
+    parameter_sites 0 parameters place ++ stmts_in_turn (map stmt_sites body) (place_after (parameters_of parameters) place)
 
 -- a new scope in a function, where these are known
 abbrev pub in_function : List Declaration → Home → Place

@@ -1,9 +1,8 @@
 -- Promise: the typing rules: which of them a program breaks, and at which token.
-use Rattle.std.specs.Prelude.{◌≡◌, ◌≢◌, ◌⊎◌, ◌<◌, ◌≤◌, ℕ, Bool, true, false, ◌||◌, List, ◌∷◌, ◌++◌, count_by, Some, None}
-use Rattle.regions.specs.declared.rights.Class.{Class}
-use Rattle.regions.specs.declared.rights.Class.TheVariants.{Open, Verified, Private, Constant, Code, Logged}
+use Rattle.std.specs.Prelude.{◌≡◌, ◌⊎◌, ◌<◌, ◌≤◌, ◌==◌, ℕ, Bool, true, false, not, List, ◌∷◌, ◌++◌, count_by, Some, None}
+use Rattle.regions.specs.declared.rights.Class.TheVariants.{Private, Constant}
 use Rattle.c_grammar.specs.declared.item.Kind3.{Kind3}
-use Rattle.c_grammar.specs.declared.item.Kind3.TheVariants.{Int, Unsigned, Void}
+use Rattle.c_grammar.specs.declared.item.Kind3.TheVariants.{Void}
 use Rattle.c_grammar.specs.declared.item.Item.{Item}
 use Rattle.c_grammar.specs.declared.item.Program.{Program}
 use Rattle.aegis_num.specs.declared.limits.TheConstants.{MAX_GLOBALS, MAX_LOCALS, MAX_PARAMETERS, MAX_ARRAY_LENGTH}
@@ -22,106 +21,67 @@ use Rattle.c_types.specs.Sites.{ItemFollows, item_sites}
 -- ---- uses of names
 
 abbrev pub is_call : How → Bool
-is_call Value = false
-is_call Element = false
-is_call Assign = false
-is_call AssignElement = false
 is_call (Call arguments) = true
 is_call (CallValue arguments) = true
-
--- a use as a whole, without an index
-abbrev pub is_whole : How → Bool
-is_whole Value = true
-is_whole Element = false
-is_whole Assign = true
-is_whole AssignElement = false
-is_whole (Call arguments) = false
-is_whole (CallValue arguments) = false
-
-abbrev pub is_indexed : How → Bool
-is_indexed Value = false
-is_indexed Element = true
-is_indexed Assign = false
-is_indexed AssignElement = true
-is_indexed (Call arguments) = false
-is_indexed (CallValue arguments) = false
+is_call other = false
 
 abbrev pub is_assignment : How → Bool
-is_assignment Value = false
-is_assignment Element = false
 is_assignment Assign = true
 is_assignment AssignElement = true
-is_assignment (Call arguments) = false
-is_assignment (CallValue arguments) = false
+is_assignment other = false
 
 -- ---- what names stand for
 
 abbrev pub is_function : Entity → Bool
-is_function (Local unsigned) = false
-is_function (Object class unsigned length) = false
 is_function (Function result untrusted parameters) = true
+is_function other = false
 
 abbrev pub is_array : Entity → Bool
-is_array (Local unsigned) = false
-is_array (Object class unsigned None) = false
 is_array (Object class unsigned (Some length)) = true
-is_array (Function result untrusted parameters) = false
+is_array other = false
 
 abbrev pub is_scalar : Entity → Bool
 is_scalar (Local unsigned) = true
 is_scalar (Object class unsigned None) = true
-is_scalar (Object class unsigned (Some length)) = false
-is_scalar (Function result untrusted parameters) = false
-
-abbrev pub is_constant_class : Class → Bool
-is_constant_class Open = false
-is_constant_class Verified = false
-is_constant_class Private = false
-is_constant_class Constant = true
-is_constant_class Code = false
-is_constant_class Logged = false
-
-abbrev pub is_private_class : Class → Bool
-is_private_class Open = false
-is_private_class Verified = false
-is_private_class Private = true
-is_private_class Constant = false
-is_private_class Code = false
-is_private_class Logged = false
+is_scalar other = false
 
 abbrev pub is_constant : Entity → Bool
-is_constant (Local unsigned) = false
-is_constant (Object class unsigned length) = is_constant_class class
-is_constant (Function result untrusted parameters) = false
+is_constant (Object Constant unsigned length) = true
+is_constant other = false
 
 abbrev pub is_private_object : Entity → Bool
-is_private_object (Local unsigned) = false
-is_private_object (Object class unsigned length) = is_private_class class
-is_private_object (Function result untrusted parameters) = false
+is_private_object (Object Private unsigned length) = true
+is_private_object other = false
 
 abbrev pub is_void : Kind3 → Bool
-is_void Int = false
-is_void Unsigned = false
 is_void Void = true
+is_void other = false
 
--- a function whose call has no value
-abbrev pub is_without_value : Entity → Bool
-is_without_value (Local unsigned) = false
-is_without_value (Object class unsigned length) = false
-is_without_value (Function result untrusted parameters) = is_void result || untrusted
+-- a function whose call has a value
+abbrev pub has_value : Entity → Bool
+has_value (Function result false parameters) = not (is_void result)
+has_value other = false
 
--- a call of that many arguments
-abbrev pub HasArguments : How → ℕ → Type 0
-HasArguments Value n = ⊥
-HasArguments Element n = ⊥
-HasArguments Assign n = ⊥
-HasArguments AssignElement n = ⊥
-HasArguments (Call arguments) n = arguments ≡ n
-HasArguments (CallValue arguments) n = arguments ≡ n
+-- ---- what may be used how
+
+-- a scalar is used as a whole, an array with an index, a function in a call
+abbrev pub fits : How → Entity → Bool
+fits Value entity = is_scalar entity
+fits Element entity = is_array entity
+fits Assign entity = is_scalar entity
+fits AssignElement entity = is_array entity
+fits (Call arguments) entity = is_function entity
+fits (CallValue arguments) entity = has_value entity
+
+-- a call gives as many arguments as the function has parameters
+abbrev pub is_counted : How → Entity → Bool
+is_counted (Call arguments) (Function result untrusted parameters) = arguments == parameters
+is_counted (CallValue arguments) (Function result untrusted parameters) = arguments == parameters
+is_counted other entity = true
 
 -- ---- the rules
 
--- Which rules are broken at a site by what stands there.
+-- what stands at a site breaks a rule
 pub data Breaks : Site → Rule → Type 0 where
   -- a name that is not known
   unknown : (how : How) (home : Home) (at : ℕ) → Breaks (site.Use how None home at) Unknown
@@ -138,21 +98,9 @@ pub data Breaks : Site → Rule → Type 0 where
   -- a private object used outside a private function
   private_outside : (how : How) (d : Binding) (home : Home) (at : ℕ) →
       is_private_object d.entity ≡ true → home.private ≡ false → Breaks (site.Use how (Some d) home at) ByClass
-  -- an array without an index
-  array_whole : (how : How) (d : Binding) (home : Home) (at : ℕ) →
-      is_whole how ≡ true → is_array d.entity ≡ true → Breaks (site.Use how (Some d) home at) Shape
-  -- a scalar with an index
-  scalar_indexed : (how : How) (d : Binding) (home : Home) (at : ℕ) →
-      is_indexed how ≡ true → is_scalar d.entity ≡ true → Breaks (site.Use how (Some d) home at) Shape
-  -- an object that is called
-  object_called : (how : How) (d : Binding) (home : Home) (at : ℕ) →
-      is_call how ≡ true → is_function d.entity ≡ false → Breaks (site.Use how (Some d) home at) Shape
-  -- a function used without a call
-  function_named : (how : How) (d : Binding) (home : Home) (at : ℕ) →
-      is_call how ≡ false → is_function d.entity ≡ true → Breaks (site.Use how (Some d) home at) Shape
-  -- a void or untrusted call used as a value
-  no_value : (arguments : ℕ) (d : Binding) (home : Home) (at : ℕ) →
-      is_without_value d.entity ≡ true → Breaks (site.Use (CallValue arguments) (Some d) home at) Shape
+  -- a name used as what it does not stand for
+  misused : (how : How) (d : Binding) (home : Home) (at : ℕ) →
+      fits how d.entity ≡ false → Breaks (site.Use how (Some d) home at) Shape
   -- a value list for a scalar
   list_for_scalar : (values at : ℕ) → Breaks (site.Constant None values true at) Shape
   -- a plain value for an array
@@ -167,9 +115,8 @@ pub data Breaks : Site → Rule → Type 0 where
   -- `break` or `continue` outside a loop
   outside_loop : (at : ℕ) → Breaks (site.Jump false at) Shape
   -- another number of arguments than parameters
-  other_number : (how : How) (d : Binding) (home : Home) (at : ℕ) (result : Kind3) (untrusted : Bool) (arguments parameters : ℕ) →
-      HasArguments how arguments → d.entity ≡ Function result untrusted parameters → arguments ≢ parameters →
-      Breaks (site.Use how (Some d) home at) Arity
+  miscounted : (how : How) (d : Binding) (home : Home) (at : ℕ) →
+      is_counted how d.entity ≡ false → Breaks (site.Use how (Some d) home at) Arity
   -- an array length of 0
   no_elements : (length at : ℕ) → length ≡ 0 → Breaks (site.Length length at) TooLong
   -- an array length above 65,536
@@ -193,14 +140,9 @@ at_token (site.Constant length values braces at) = at
 
 -- a local or a parameter is declared here
 abbrev pub is_local : Site → Bool
-is_local (site.Use how means home at) = false
 is_local (site.Local again at) = true
 is_local (site.Parameter number again at) = true
-is_local (site.Return result value at) = false
-is_local (site.Jump in_loop at) = false
-is_local (site.Global number again at) = false
-is_local (site.Length length at) = false
-is_local (site.Constant length values braces at) = false
+is_local other = false
 
 -- a site of several in a row, and those before it
 pub record Stands (sites front : List Site) (s : Site) : Type 0 where

@@ -1,45 +1,19 @@
 -- Device: what a walk over sites in a row finds: the first violation, and how many locals and parameters the function has
 -- so far.
-use Rattle.std.specs.Prelude.{ℕ, ◌+◌, ◌==◌, nat_lt, Bool, false, not, ◌&&◌, ◌||◌, List, [], ◌∷◌, Option, Some, None, if◌then◌else◌}
+use Rattle.std.specs.Prelude.{ℕ, ◌+◌, ◌==◌, nat_lt, Bool, not, ◌&&◌, ◌||◌, List, [], ◌∷◌, Option, Some, None, if◌then◌else◌}
 use Rattle.c_grammar.specs.declared.item.Kind3.{Kind3}
 use Rattle.aegis_num.specs.declared.limits.TheConstants.{MAX_GLOBALS, MAX_LOCALS, MAX_PARAMETERS, MAX_ARRAY_LENGTH}
 use Rattle.c_scopes.specs.declared.declaration.Binding.{Binding}
 use Rattle.c_scopes.specs.declared.declaration.Entity.{Entity}
-use Rattle.c_scopes.specs.declared.declaration.Entity.TheVariants.{Local, Object, Function}
 use Rattle.c_types.specs.declared.site.Home.{Home}
 use Rattle.c_types.specs.declared.site.How.{How}
-use Rattle.c_types.specs.declared.site.How.TheVariants.{Value, Element, Assign, AssignElement, Call, CallValue}
 use Rattle.c_types.specs.declared.site.Rule.{Rule}
 use Rattle.c_types.specs.declared.site.Rule.TheVariants.{Unknown, Twice, Recursive, Class, Shape, Arity, TooLong, TooMany}
 use Rattle.c_types.specs.declared.site.Site.{Site}
 use Rattle.c_types.specs.declared.site.Site.TheVariants as site
 use Rattle.c_types.specs.declared.verdict.Fault.{Fault}
 use Rattle.c_types.specs.declared.verdict.Verdict.{Verdict}
-use Rattle.c_types.specs.TypingRules.{is_call, is_assignment, is_function, is_array, is_scalar, is_constant, is_private_object, is_void, is_without_value, at_token, rule_order}
-
--- a name of this kind is not used so
-abbrev pub misfits : How → Entity → Bool
-misfits Value entity = is_array entity || is_function entity
-misfits Element entity = is_scalar entity || is_function entity
-misfits Assign entity = is_array entity || is_function entity
-misfits AssignElement entity = is_scalar entity || is_function entity
-misfits (Call arguments) entity = not (is_function entity)
-misfits (CallValue arguments) entity = not (is_function entity) || is_without_value entity
-
--- the number is not that of the parameters
-abbrev pub differs_from : Entity → ℕ → Bool
-differs_from (Local unsigned) arguments = false
-differs_from (Object class unsigned length) arguments = false
-differs_from (Function result untrusted parameters) arguments = not (arguments == parameters)
-
--- the call has another number of arguments than the function has parameters
-abbrev pub miscounts : How → Entity → Bool
-miscounts Value entity = false
-miscounts Element entity = false
-miscounts Assign entity = false
-miscounts AssignElement entity = false
-miscounts (Call arguments) entity = differs_from entity arguments
-miscounts (CallValue arguments) entity = differs_from entity arguments
+use Rattle.c_types.specs.TypingRules.{is_call, is_assignment, is_constant, is_private_object, is_void, fits, is_counted, at_token, is_local, rule_order}
 
 -- the class does not allow the use
 abbrev pub is_barred : How → Entity → Home → Bool
@@ -50,8 +24,8 @@ abbrev pub known_rule : How → Binding → Home → Option Rule
 known_rule how d home =
     if is_call how && (d.token == home.token) then Some Recursive
     else (if is_barred how d.entity home then Some Class
-    else (if misfits how d.entity then Some Shape
-    else (if miscounts how d.entity then Some Arity
+    else (if not (fits how d.entity) then Some Shape
+    else (if not (is_counted how d.entity) then Some Arity
     else None)))
 
 -- the first rule that a use breaks
@@ -95,14 +69,7 @@ one_more locals = if nat_lt MAX_LOCALS locals then locals else locals + 1
 
 -- how many locals and parameters there are after a site
 abbrev pub locals_after : ℕ → Site → ℕ
-locals_after locals (site.Use how means home at) = locals
-locals_after locals (site.Local again at) = one_more locals
-locals_after locals (site.Parameter number again at) = one_more locals
-locals_after locals (site.Return result value at) = locals
-locals_after locals (site.Jump in_loop at) = locals
-locals_after locals (site.Global number again at) = locals
-locals_after locals (site.Length length at) = locals
-locals_after locals (site.Constant length values braces at) = locals
+locals_after locals s = if is_local s then one_more locals else locals
 
 -- whether a violation comes before another
 abbrev pub is_sooner : Fault → Fault → Bool

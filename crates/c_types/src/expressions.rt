@@ -1,6 +1,7 @@
 //! The sites of expressions.
 ghost use Rattle.std.specs.Prelude.{◌≡◌};
-ghost use Rattle.c_types.specs.Sites.{use_of, expr_sites, part_sites, list_sites};
+ghost use Rattle.c_types.specs.Sites.{use_of, expr_sites, part_sites};
+ghost use Rattle.c_types.specs.Walks.{list_sites};
 ghost use Rattle.c_types.specs.Verdicts.{note, noted};
 
 use crate::site::{Home, How, Site};

@@ -2,9 +2,9 @@
 ghost use Rattle.std.specs.Prelude.{◌≡◌, [], ◌∷◌, ◌++◌, length, OnOk, is_some};
 ghost use Rattle.c_types.specs.declared.site.Site.TheVariants as site;
 ghost use Rattle.c_scopes.specs.Scopes.{is_again};
-ghost use Rattle.c_types.specs.Sites.{use_of, assign, inner_scope, looped, place_after, stmt_sites, branch_sites, body_sites, part_sites, list_sites, expr_sites};
+ghost use Rattle.c_types.specs.Sites.{use_of, assign, inner_scope, looped, place_after, stmt_sites, part_sites, expr_sites};
 ghost use Rattle.c_types.specs.Verdicts.{note, noted};
-ghost use Rattle.c_types.specs.Walks.{place_of, declared_in};
+ghost use Rattle.c_types.specs.Walks.{place_of, declared_in, branch_sites, body_sites, list_sites};
 
 use crate::expressions::{expression, expressions, part, used};
 use crate::site::{Home, How, Site};

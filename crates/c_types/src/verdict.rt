@@ -1,7 +1,8 @@
 //! What a walk over the sites of a program finds.
 ghost use Rattle.std.specs.Prelude.{◌≡◌, ◌==◌, ◌||◌, not};
+ghost use Rattle.c_types.specs.declared.site.How.TheVariants.{Call};
 ghost use Rattle.aegis_num.specs.declared.limits.TheConstants.{MAX_LOCALS};
-ghost use Rattle.c_types.specs.TypingRules.{is_call, is_whole, is_indexed, is_assignment, is_function, is_array, is_scalar, is_constant, is_private_object, is_void, is_without_value, at_token, rule_order};
+ghost use Rattle.c_types.specs.TypingRules.{is_call, is_assignment, is_function, is_array, is_scalar, is_constant, is_private_object, is_void, has_value, fits, is_counted, at_token, is_local, rule_order};
 ghost use Rattle.c_types.specs.Verdicts as spec;
 
 use crate::site::{Home, How, Rule, Site};
@@ -86,45 +87,45 @@ fn is_void(result_kind: Kind3) -> bool
     matches!(result_kind, Kind3::Void)
 }
 
-fn is_without_value(entity: Entity) -> bool
-    ensures { result ≡ is_without_value entity }
+fn has_value(entity: Entity) -> bool
+    ensures { result ≡ has_value entity }
 {
     match entity {
         Entity::Function {
             result,
             untrusted,
             ..
-        } => is_void(result) || untrusted,
+        } => !untrusted && !is_void(result),
         Entity::Local { .. } | Entity::Object { .. } => false,
     }
 }
 
-fn misfits(how: How, entity: Entity) -> bool
-    ensures { result ≡ spec.misfits how entity }
+fn fits(how: How, entity: Entity) -> bool
+    ensures { result ≡ fits how entity }
 {
     match how {
-        How::Value | How::Assign => is_array(entity) || is_function(entity),
-        How::Element | How::AssignElement => is_scalar(entity) || is_function(entity),
-        How::Call { .. } => !is_function(entity),
-        How::CallValue { .. } => !is_function(entity) || is_without_value(entity),
+        How::Value | How::Assign => is_scalar(entity),
+        How::Element | How::AssignElement => is_array(entity),
+        How::Call { .. } => is_function(entity),
+        How::CallValue { .. } => has_value(entity),
     }
 }
 
-fn differs_from(entity: Entity, arguments: usize) -> bool
-    ensures { result ≡ spec.differs_from entity arguments }
+fn takes(entity: Entity, arguments: usize) -> bool
+    ensures { result ≡ is_counted (Call arguments) entity }
 {
     match entity {
-        Entity::Function { parameters, .. } => arguments != parameters,
-        Entity::Local { .. } | Entity::Object { .. } => false,
+        Entity::Function { parameters, .. } => arguments == parameters,
+        Entity::Local { .. } | Entity::Object { .. } => true,
     }
 }
 
-fn miscounts(how: How, entity: Entity) -> bool
-    ensures { result ≡ spec.miscounts how entity }
+fn is_counted(how: How, entity: Entity) -> bool
+    ensures { result ≡ is_counted how entity }
 {
     match how {
-        How::Call { arguments } | How::CallValue { arguments } => differs_from(entity, arguments),
-        How::Value | How::Element | How::Assign | How::AssignElement => false,
+        How::Call { arguments } | How::CallValue { arguments } => takes(entity, arguments),
+        How::Value | How::Element | How::Assign | How::AssignElement => true,
     }
 }
 
@@ -143,10 +144,10 @@ fn known_rule(how: How, binding: Binding, home: Home) -> Option<Rule>
     if is_barred(how, binding.entity, home) {
         return Some(Rule::Class);
     }
-    if misfits(how, binding.entity) {
+    if !fits(how, binding.entity) {
         return Some(Rule::Shape);
     }
-    if miscounts(how, binding.entity) {
+    if !is_counted(how, binding.entity) {
         return Some(Rule::Arity);
     }
     None
@@ -262,18 +263,20 @@ fn one_more(locals: usize) -> usize
     locals + 1
 }
 
+/// Whether a local or a parameter is declared at a site.
+fn is_local(site: Site) -> bool
+    ensures { result ≡ is_local site }
+{
+    matches!(site, Site::Local { .. } | Site::Parameter { .. })
+}
+
 fn locals_after(locals: usize, site: Site) -> usize
     ensures { result ≡ spec.locals_after locals site }
 {
-    match site {
-        Site::Local { .. } | Site::Parameter { .. } => one_more(locals),
-        Site::Use { .. }
-        | Site::Global { .. }
-        | Site::Return { .. }
-        | Site::Jump { .. }
-        | Site::Length { .. }
-        | Site::Constant { .. } => locals,
+    if is_local(site) {
+        return one_more(locals);
     }
+    locals
 }
 
 fn rule_order(rule: Rule) -> u8

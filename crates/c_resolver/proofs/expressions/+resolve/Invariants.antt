@@ -1,7 +1,6 @@
 use Rattle.std.proofs.Common.{◌≡◌, drop}
 use Rattle.c_semantics.specs.ResolvedViews.{exprs_of}
-use Rattle.c_resolver.specs.Resolving.{list_in}
-use Rattle.c_resolver.specs.ResolvingViews.{arguments_then}
+use Rattle.c_resolver.specs.ResolvingViews.{arguments_then, list_in}
 use Rattle.c_resolver.proofs.expressions.+resolve.Given as goal
 
 abbrev pub invariant-listed-loop-e : goal.invariant-listed-loop-e

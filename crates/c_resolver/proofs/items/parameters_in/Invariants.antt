@@ -1,6 +1,6 @@
 use Rattle.std.proofs.Common.{◌≡◌, ◌++◌, drop}
 use Rattle.c_scopes.specs.Declarations.{parameters_of}
-use Rattle.c_resolver.specs.Resolving.{parameters_in}
+use Rattle.c_resolver.specs.ResolvingViews.{parameters_in}
 use Rattle.c_resolver.proofs.items.parameters_in.Given as goal
 
 abbrev pub invariant-loop-p : goal.invariant-loop-p

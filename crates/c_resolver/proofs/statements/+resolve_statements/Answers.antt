@@ -2,9 +2,9 @@ use Rattle.std.proofs.Common.{◌≡◌, ◌∙◌, ap, sym, ◌+◌, suc, ◌++
 use Rattle.c_semantics.specs.ResolvedTree as Tree
 use Rattle.c_semantics.specs.ResolvedViews.{branch_of, part_of, stmt_of}
 use Rattle.c_semantics.proofs.ViewForms.{stmt_of-Block, stmt_of-For}
-use Rattle.c_resolver.specs.Resolving.{body_declared, body_in, branch_declared, branch_in, part_in, resolved}
-use Rattle.c_resolver.specs.ResolvingViews.{stmts_then}
-use Rattle.c_resolver.proofs.Rows.{body-at, declared-Block, declared-at, kept, resolved-Block, resolved-For, stmts-snoc}
+use Rattle.c_resolver.specs.Resolving.{part_in, resolved}
+use Rattle.c_resolver.specs.ResolvingViews.{body_declared, body_in, branch_declared, branch_in, stmts_then}
+use Rattle.c_resolver.proofs.Rows.{body-at, body-end, declared-Block, declared-at, kept, resolved-Block, resolved-For, stmts-none, stmts-snoc}
 use Rattle.c_resolver.proofs.statements.+resolve_statements.Goals as goal
 
 pub statement-returns-in_ok-forget-in-Block-clause-at : goal.statement-returns-in_ok-forget-in-Block-clause-at
@@ -68,3 +68,9 @@ statements-loop-s-preserved t c =
           ∙ ap (λ known. known ++ body_declared c.args.functions.now (drop (suc c.loop-s.s-index) c.args.ss.now)) (sym c.in_ok-one.ensures.declared)
           ∙ ap (λ n. c.statement.new.names ++ body_declared c.args.functions.now (drop n c.args.ss.now)) (sym next),
     )
+
+pub statements-returns-clause-at : goal.statements-returns-clause-at
+statements-returns-clause-at t c =
+    sym (c.loop-s.invariant.0
+    ∙ ap (stmts_then c.loop-s.body) (body-end c.args.functions.now c.args.ss.now c.loop-s.s-index c.loop-s.names (omega (arith, c.loop-s-test.false)))
+    ∙ stmts-none c.loop-s.body)

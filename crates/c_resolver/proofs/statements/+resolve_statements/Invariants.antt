@@ -1,6 +1,5 @@
 use Rattle.std.proofs.Common.{◌≡◌, ◌++◌, drop}
-use Rattle.c_resolver.specs.Resolving.{body_declared, body_in}
-use Rattle.c_resolver.specs.ResolvingViews.{stmts_then}
+use Rattle.c_resolver.specs.ResolvingViews.{body_declared, body_in, stmts_then}
 use Rattle.c_resolver.proofs.statements.+resolve_statements.Given as goal
 
 abbrev pub invariant-statements-loop-s : goal.invariant-statements-loop-s

@@ -1,5 +1,5 @@
 use Rattle.std.proofs.Common.{◌∙◌, ap, ◌+◌, drop}
-use Rattle.c_types.specs.Sites.{list_sites}
+use Rattle.c_types.specs.Walks.{list_sites}
 use Rattle.c_types.specs.Verdicts.{noted}
 use Rattle.c_types.proofs.Noted.{list_step}
 use Rattle.c_types.proofs.expressions.+expression.Goals as goal

@@ -1,6 +1,6 @@
 use Rattle.std.proofs.Common.{◌≡◌, ◌∙◌, ap, ◌+◌, ◌++◌, drop, refl}
-use Rattle.c_types.specs.Sites.{inner_scope, place_after, branch_sites}
-use Rattle.c_types.specs.Walks.{place_of, declared_in}
+use Rattle.c_types.specs.Sites.{inner_scope, place_after}
+use Rattle.c_types.specs.Walks.{place_of, declared_in, branch_sites}
 use Rattle.c_types.proofs.Noted.{behind_step, body_step, if_parts, while_parts, for_parts, for_names}
 use Rattle.c_types.proofs.statements.+statement.Goals as goal
 

@@ -1,7 +1,6 @@
 use Rattle.std.proofs.Common.{◌≡◌, ◌++◌, drop}
-use Rattle.c_types.specs.Sites.{body_sites}
 use Rattle.c_types.specs.Verdicts.{noted}
-use Rattle.c_types.specs.Walks.{place_of, declared_in}
+use Rattle.c_types.specs.Walks.{place_of, declared_in, body_sites}
 use Rattle.c_types.proofs.statements.+statement.Given as goal
 
 abbrev pub invariant-statements-loop-s : goal.invariant-statements-loop-s
