@@ -1,5 +1,5 @@
 -- The functions and objects of a resolved program are those that are listed.
-use Rattle.std.proofs.Common.{◌≡◌, ◌∙◌, ap, ℕ, suc, ◌+◌, Bool, List, [], ◌∷◌, ◌++◌, length, map, Some, refl}
+use Rattle.std.proofs.Common.{◌≡◌, ◌∙◌, ap, ℕ, suc, List, [], ◌∷◌, ◌++◌, length, map, Some, refl}
 use Rattle.regions.specs.declared.rights.Class.TheVariants.{Constant}
 use Rattle.c_grammar.specs.declared.item.Parameter.{Parameter}
 use Rattle.c_grammar.specs.declared.item.Item.{Item}
@@ -8,8 +8,9 @@ use Rattle.c_grammar.specs.declared.item.Program.{Program}
 use Rattle.c_scopes.specs.declared.declaration.Declaration.{Declaration}
 use Rattle.c_scopes.specs.Declarations.{class_of, declaration_of}
 use Rattle.c_types.specs.Checked.{listed_functions, listed_objects}
-use Rattle.c_resolver.specs.Resolving.{functions_in, function_tokens, objects_in, parameters_in}
-use Rattle.c_meaning.specs.FunctionNumbers.{FunctionsListed, ObjectsListed, Shape, listed_kept, listed_shape, resolved_kept, resolved_shape, trusted}
+use Rattle.c_resolver.specs.Resolving.{functions_in, function_tokens, objects_in}
+use Rattle.c_resolver.specs.ResolvingViews.{parameters_in}
+use Rattle.c_meaning.specs.FunctionNumbers.{FunctionsListed, ObjectsListed, listed_kept, listed_shape, resolved_kept, resolved_shape, trusted}
 
 pub parameters-length : (ps : List Parameter) → length (parameters_in ps) ≡ length ps
 parameters-length [] = refl

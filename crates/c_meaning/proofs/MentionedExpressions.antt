@@ -20,11 +20,12 @@ use Rattle.c_types.specs.declared.site.Rule.{Rule}
 use Rattle.c_types.specs.declared.site.Site.{Site}
 use Rattle.c_scopes.specs.Scopes.{latest}
 use Rattle.c_types.specs.Sites
-use Rattle.c_types.specs.Sites.{ExprSites, expr_sites, list_sites, exprs_in_turn}
+use Rattle.c_types.specs.Sites.{ExprSites, expr_sites}
+use Rattle.c_types.specs.Walks.{list_sites}
 use Rattle.c_types.specs.TypingRules.{Breaks}
-use Rattle.c_semantics.specs.ResolvedTree as Tree
 use Rattle.c_resolver.specs.Resolving
-use Rattle.c_resolver.specs.Resolving.{Resolved, arguments_in, list_in, typed}
+use Rattle.c_resolver.specs.Resolving.{Resolved, arguments_in, typed_expr}
+use Rattle.c_resolver.specs.ResolvingViews.{list_in}
 use Rattle.c_meaning.specs.Mentions.{Mention, at_site, at_sites, bound, in_arguments, in_expr}
 use Rattle.c_meaning.proofs.Uses.{named-bound, indexed-bound, called-bound, binary-operands, unary-operand}
 
@@ -67,93 +68,82 @@ Agrees fs r s = (known : List Declaration) (home : Home) → Mentioned fs (in_ex
 abbrev pub AgreesAll : List ℕ → List Expr → Type 0
 AgreesAll fs es = (known : List Declaration) (home : Home) → Mentioned fs (in_arguments (list_in fs es known)) (list_sites es known home)
 
-by_layer : (fs : List ℕ) (e : Expr) (r : Resolved) (s : ExprSites) → typed fs e ≡ r → expr_sites e ≡ s → Agrees fs r s → Agrees fs (typed fs e) (expr_sites e)
+by_layer : (fs : List ℕ) (e : Expr) (r : Resolved) (s : ExprSites) → typed_expr fs e ≡ r → expr_sites e ≡ s → Agrees fs r s → Agrees fs (typed_expr fs e) (expr_sites e)
 by_layer fs e r s same also agrees = subst (λ r'. Agrees fs r' (expr_sites e)) (sym same) (subst (λ s'. Agrees fs r s') (sym also) agrees)
 
-number_agrees : (fs : List ℕ) (value : ℕ) (unsigned : Bool) (token : ℕ) → Agrees fs (typed fs (expr.Number value unsigned token)) (expr_sites (expr.Number value unsigned token))
+number_agrees : (fs : List ℕ) (value : ℕ) (unsigned : Bool) (token : ℕ) → Agrees fs (typed_expr fs (expr.Number value unsigned token)) (expr_sites (expr.Number value unsigned token))
 number_agrees fs value unsigned token =
     by_layer fs (expr.Number value unsigned token) _ _
-    (ap (typed fs) (sym (expr.rolls-Number value unsigned token)) ∙ fold-roll-Expr Resolved (Resolving.expr_step fs) (Expr-F.Number value unsigned token))
+    (ap (typed_expr fs) (sym (expr.rolls-Number value unsigned token)) ∙ fold-roll-Expr Resolved (Resolving.typed_step fs) (Expr-F.Number value unsigned token))
     (ap expr_sites (sym (expr.rolls-Number value unsigned token)) ∙ fold-roll-Expr ExprSites Sites.expr_sites_step (Expr-F.Number value unsigned token))
     (λ known home clean. refl)
 
-name_agrees : (fs : List ℕ) (name : List ℕ) (token : ℕ) → Agrees fs (typed fs (expr.Name name token)) (expr_sites (expr.Name name token))
+name_agrees : (fs : List ℕ) (name : List ℕ) (token : ℕ) → Agrees fs (typed_expr fs (expr.Name name token)) (expr_sites (expr.Name name token))
 name_agrees fs name token =
     by_layer fs (expr.Name name token) _ _
-    (ap (typed fs) (sym (expr.rolls-Name name token)) ∙ fold-roll-Expr Resolved (Resolving.expr_step fs) (Expr-F.Name name token))
+    (ap (typed_expr fs) (sym (expr.rolls-Name name token)) ∙ fold-roll-Expr Resolved (Resolving.typed_step fs) (Expr-F.Name name token))
     (ap expr_sites (sym (expr.rolls-Name name token)) ∙ fold-roll-Expr ExprSites Sites.expr_sites_step (Expr-F.Name name token))
     (λ known home clean. named-bound fs home token (latest known name) clean.0)
 
-index_agrees : (fs : List ℕ) (name : List ℕ) (index : Expr) (token : ℕ) → Agrees fs (typed fs index) (expr_sites index) →
-    Agrees fs (typed fs (expr.Index name index token)) (expr_sites (expr.Index name index token))
+index_agrees : (fs : List ℕ) (name : List ℕ) (index : Expr) (token : ℕ) → Agrees fs (typed_expr fs index) (expr_sites index) →
+    Agrees fs (typed_expr fs (expr.Index name index token)) (expr_sites (expr.Index name index token))
 index_agrees fs name index token agrees =
     by_layer fs (expr.Index name index token) _ _
-    (ap (typed fs) (sym (expr.rolls-Index name index token)) ∙ fold-roll-Expr Resolved (Resolving.expr_step fs) (Expr-F.Index name index token))
+    (ap (typed_expr fs) (sym (expr.rolls-Index name index token)) ∙ fold-roll-Expr Resolved (Resolving.typed_step fs) (Expr-F.Index name index token))
     (ap expr_sites (sym (expr.rolls-Index name index token)) ∙ fold-roll-Expr ExprSites Sites.expr_sites_step (Expr-F.Index name index token))
-    (λ known home clean. indexed-bound fs home (token - 1) (latest known name) token (typed fs index known).expr clean.0
+    (λ known home clean. indexed-bound fs home (token - 1) (latest known name) token (typed_expr fs index known).expr clean.0
     ∙ ap (λ ms. bound fs (latest known name) ++ ms) (agrees known home clean.1))
 
 length-map_sites : (es : List Expr) → length (map expr_sites es) ≡ length es
 length-map_sites [] = refl
 length-map_sites (e ∷ es) = omega (arith, length-map_sites es)
 
-sites_in_turn-map : (es : List Expr) (known : List Declaration) (home : Home) → exprs_in_turn (map expr_sites es) known home ≡ list_sites es known home
-sites_in_turn-map [] known home = refl
-sites_in_turn-map (e ∷ es) known home = ap (λ sites. expr_sites e known home ++ sites) (sites_in_turn-map es known home)
-
-arguments_in-map : (fs : List ℕ) (es : List Expr) (known : List Declaration) → arguments_in (map (typed fs) es) known ≡ list_in fs es known
-arguments_in-map fs [] known = refl
-arguments_in-map fs (e ∷ es) known = ap (λ later. Tree.Argument (typed fs e known).expr later) (arguments_in-map fs es known)
-
 call_agrees : (fs : List ℕ) (name : List ℕ) (es : List Expr) (token : ℕ) → AgreesAll fs es →
-    Agrees fs (typed fs (expr.Call name es token)) (expr_sites (expr.Call name es token))
+    Agrees fs (typed_expr fs (expr.Call name es token)) (expr_sites (expr.Call name es token))
 call_agrees fs name es token agrees =
     by_layer fs (expr.Call name es token) _ _
-    (ap (typed fs) (sym (expr.rolls-Call name es token)) ∙ fold-roll-Expr Resolved (Resolving.expr_step fs) (Expr-F.Call name es token))
+    (ap (typed_expr fs) (sym (expr.rolls-Call name es token)) ∙ fold-roll-Expr Resolved (Resolving.typed_step fs) (Expr-F.Call name es token))
     (ap expr_sites (sym (expr.rolls-Call name es token)) ∙ fold-roll-Expr ExprSites Sites.expr_sites_step (Expr-F.Call name es token))
-    (λ known home clean. called-bound fs (length (map expr_sites es)) home token (latest known name) (arguments_in (map (typed fs) es) known) clean.0
-    ∙ ap (λ ms. bound fs (latest known name) ++ ms)
-    (mentioned-by fs (in_arguments (arguments_in (map (typed fs) es) known)) (in_arguments (list_in fs es known))
-    (exprs_in_turn (map expr_sites es) known home) (list_sites es known home)
-    (ap in_arguments (arguments_in-map fs es known)) (sites_in_turn-map es known home) (agrees known home) clean.1))
+    (λ known home clean. called-bound fs (length (map expr_sites es)) home token (latest known name) (arguments_in (map (typed_expr fs) es) known) clean.0
+    ∙ ap (λ ms. bound fs (latest known name) ++ ms) (agrees known home clean.1))
 
-input_agrees : (fs : List ℕ) (token : ℕ) → Agrees fs (typed fs (expr.Input token)) (expr_sites (expr.Input token))
+input_agrees : (fs : List ℕ) (token : ℕ) → Agrees fs (typed_expr fs (expr.Input token)) (expr_sites (expr.Input token))
 input_agrees fs token =
     by_layer fs (expr.Input token) _ _
-    (ap (typed fs) (sym (expr.rolls-Input token)) ∙ fold-roll-Expr Resolved (Resolving.expr_step fs) (Expr-F.Input token))
+    (ap (typed_expr fs) (sym (expr.rolls-Input token)) ∙ fold-roll-Expr Resolved (Resolving.typed_step fs) (Expr-F.Input token))
     (ap expr_sites (sym (expr.rolls-Input token)) ∙ fold-roll-Expr ExprSites Sites.expr_sites_step (Expr-F.Input token))
     (λ known home clean. refl)
 
-paren_agrees : (fs : List ℕ) (inner : Expr) (token : ℕ) → Agrees fs (typed fs inner) (expr_sites inner) →
-    Agrees fs (typed fs (expr.Paren inner token)) (expr_sites (expr.Paren inner token))
+paren_agrees : (fs : List ℕ) (inner : Expr) (token : ℕ) → Agrees fs (typed_expr fs inner) (expr_sites inner) →
+    Agrees fs (typed_expr fs (expr.Paren inner token)) (expr_sites (expr.Paren inner token))
 paren_agrees fs inner token agrees =
     by_layer fs (expr.Paren inner token) _ _
-    (ap (typed fs) (sym (expr.rolls-Paren inner token)) ∙ fold-roll-Expr Resolved (Resolving.expr_step fs) (Expr-F.Paren inner token))
+    (ap (typed_expr fs) (sym (expr.rolls-Paren inner token)) ∙ fold-roll-Expr Resolved (Resolving.typed_step fs) (Expr-F.Paren inner token))
     (ap expr_sites (sym (expr.rolls-Paren inner token)) ∙ fold-roll-Expr ExprSites Sites.expr_sites_step (Expr-F.Paren inner token))
     agrees
 
-unary_agrees : (fs : List ℕ) (op : Sign) (inner : Expr) (token : ℕ) → is_unary_operator op ≡ true → Agrees fs (typed fs inner) (expr_sites inner) →
-    Agrees fs (typed fs (expr.Unary op inner token)) (expr_sites (expr.Unary op inner token))
+unary_agrees : (fs : List ℕ) (op : Sign) (inner : Expr) (token : ℕ) → is_unary_operator op ≡ true → Agrees fs (typed_expr fs inner) (expr_sites inner) →
+    Agrees fs (typed_expr fs (expr.Unary op inner token)) (expr_sites (expr.Unary op inner token))
 unary_agrees fs op inner token is agrees =
     by_layer fs (expr.Unary op inner token) _ _
-    (ap (typed fs) (sym (expr.rolls-Unary op inner token)) ∙ fold-roll-Expr Resolved (Resolving.expr_step fs) (Expr-F.Unary op inner token))
+    (ap (typed_expr fs) (sym (expr.rolls-Unary op inner token)) ∙ fold-roll-Expr Resolved (Resolving.typed_step fs) (Expr-F.Unary op inner token))
     (ap expr_sites (sym (expr.rolls-Unary op inner token)) ∙ fold-roll-Expr ExprSites Sites.expr_sites_step (Expr-F.Unary op inner token))
-    (λ known home clean. unary-operand op (typed fs inner known) is ∙ agrees known home clean)
+    (λ known home clean. unary-operand op (typed_expr fs inner known) is ∙ agrees known home clean)
 
 binary_agrees : (fs : List ℕ) (op : Sign) (left right : Expr) (token level : ℕ) → rank op ≡ suc level →
-    Agrees fs (typed fs left) (expr_sites left) → Agrees fs (typed fs right) (expr_sites right) →
-    Agrees fs (typed fs (expr.Binary op left right token)) (expr_sites (expr.Binary op left right token))
+    Agrees fs (typed_expr fs left) (expr_sites left) → Agrees fs (typed_expr fs right) (expr_sites right) →
+    Agrees fs (typed_expr fs (expr.Binary op left right token)) (expr_sites (expr.Binary op left right token))
 binary_agrees fs op left right token level is first second =
     by_layer fs (expr.Binary op left right token) _ _
-    (ap (typed fs) (sym (expr.rolls-Binary op left right token)) ∙ fold-roll-Expr Resolved (Resolving.expr_step fs) (Expr-F.Binary op left right token))
+    (ap (typed_expr fs) (sym (expr.rolls-Binary op left right token)) ∙ fold-roll-Expr Resolved (Resolving.typed_step fs) (Expr-F.Binary op left right token))
     (ap expr_sites (sym (expr.rolls-Binary op left right token)) ∙ fold-roll-Expr ExprSites Sites.expr_sites_step (Expr-F.Binary op left right token))
-    (λ known home clean. binary-operands op token level (typed fs left known) (typed fs right known) is
-    ∙ mentioned-append fs (in_expr (typed fs left known).expr) (in_expr (typed fs right known).expr) (expr_sites left known home) (expr_sites right known home)
+    (λ known home clean. binary-operands op token level (typed_expr fs left known) (typed_expr fs right known) is
+    ∙ mentioned-append fs (in_expr (typed_expr fs left known).expr) (in_expr (typed_expr fs right known).expr) (expr_sites left known home) (expr_sites right known home)
     (first known home) (second known home) clean)
 
-one_agrees : (fs : List ℕ) (e : Expr) (es : List Expr) → Agrees fs (typed fs e) (expr_sites e) → AgreesAll fs es → AgreesAll fs (e ∷ es)
+one_agrees : (fs : List ℕ) (e : Expr) (es : List Expr) → Agrees fs (typed_expr fs e) (expr_sites e) → AgreesAll fs es → AgreesAll fs (e ∷ es)
 one_agrees fs e es first later known home =
-    mentioned-append fs (in_expr (typed fs e known).expr) (in_arguments (list_in fs es known)) (expr_sites e known home) (list_sites es known home)
+    mentioned-append fs (in_expr (typed_expr fs e known).expr) (in_arguments (list_in fs es known)) (expr_sites e known home) (list_sites es known home)
     (first known home) (later known home)
 
 none_agree : (fs : List ℕ) → AgreesAll fs []
@@ -162,20 +152,20 @@ none_agree fs known home clean = refl
 -- ---- expressions of the grammar
 
 mutual
-  pub expression_agrees : (fs : List ℕ) {l : ℕ} {ts : List Bounded} {x : Expr} → Expression l ts x → Agrees fs (typed fs x) (expr_sites x)
+  pub expression_agrees : (fs : List ℕ) {l : ℕ} {ts : List Bounded} {x : Expr} → Expression l ts x → Agrees fs (typed_expr fs x) (expr_sites x)
   expression_agrees fs (whole d) = binary_levels_agree fs d
 
-  binary_levels_agree : (fs : List ℕ) {l level before used : ℕ} {ts : List Bounded} {x : Expr} → Binary l level before ts x used → Agrees fs (typed fs x) (expr_sites x)
+  binary_levels_agree : (fs : List ℕ) {l level before used : ℕ} {ts : List Bounded} {x : Expr} → Binary l level before ts x used → Agrees fs (typed_expr fs x) (expr_sites x)
   binary_levels_agree fs (alone d) = unary_levels_agree fs d
   binary_levels_agree fs (tighter d) = binary_levels_agree fs d
   binary_levels_agree fs (both {level = level} {x = x} {y = y} op at d is room d2) =
       binary_agrees fs op x y at.place level is (λ known home clean. binary_levels_agree fs d known home clean) (λ known home clean. binary_levels_agree fs d2 known home clean)
 
-  unary_levels_agree : (fs : List ℕ) {l : ℕ} {ts : List Bounded} {x : Expr} → Unary l ts x → Agrees fs (typed fs x) (expr_sites x)
+  unary_levels_agree : (fs : List ℕ) {l : ℕ} {ts : List Bounded} {x : Expr} → Unary l ts x → Agrees fs (typed_expr fs x) (expr_sites x)
   unary_levels_agree fs (primary d) = primary_agrees fs d
   unary_levels_agree fs (operation {x = x} op at is room d) = unary_agrees fs op x at.place is (λ known home clean. unary_levels_agree fs d known home clean)
 
-  primary_agrees : (fs : List ℕ) {l : ℕ} {ts : List Bounded} {x : Expr} → Primary l ts x → Agrees fs (typed fs x) (expr_sites x)
+  primary_agrees : (fs : List ℕ) {l : ℕ} {ts : List Bounded} {x : Expr} → Primary l ts x → Agrees fs (typed_expr fs x) (expr_sites x)
   primary_agrees fs (literal value unsigned at) = number_agrees fs value unsigned at.place
   primary_agrees fs (variable text at) = name_agrees fs text at.place
   primary_agrees fs (element {x = x} text at left right room d) = index_agrees fs text x left.place (λ known home clean. expression_agrees fs d known home clean)

@@ -12,12 +12,14 @@ use Rattle.c_types.specs.declared.site.Home.{Home}
 use Rattle.c_types.specs.declared.site.Rule.{Rule}
 use Rattle.c_types.specs.declared.site.Site.{Site}
 use Rattle.c_scopes.specs.Declarations.{declaration_of, declarations_of, entity_of, parameter, parameters_of}
-use Rattle.c_types.specs.Sites.{Place, place_after, body_sites, function_sites, in_function, item_sites, length_sites, parameter_sites}
+use Rattle.c_types.specs.Sites.{Place, place_after, function_sites, in_function, item_sites, length_sites, parameter_sites}
+use Rattle.c_types.specs.Walks.{body_sites}
 use Rattle.c_types.specs.TypingRules.{Breaks, Stands, at_token}
 use Rattle.c_types.specs.TypingRules.Violates.{by_site}
 use Rattle.c_types.specs.Checked.{IsReadProgram, KeepsRules}
 use Rattle.c_semantics.specs.ResolvedTree as Tree
-use Rattle.c_resolver.specs.Resolving.{body_in, function_tokens, functions_in, parameters_in}
+use Rattle.c_resolver.specs.Resolving.{function_tokens, functions_in}
+use Rattle.c_resolver.specs.ResolvingViews.{body_in, parameters_in}
 use Rattle.c_meaning.specs.Mentions.{Declared, NamesAgree, at_sites, in_functions, in_parameters, in_stmt, items_sites}
 use Rattle.c_meaning.proofs.Uses.{TakesNone, AllTakeNone, take_none-append}
 use Rattle.c_meaning.proofs.MentionedExpressions.{Clean, Mentioned, mentioned-append}

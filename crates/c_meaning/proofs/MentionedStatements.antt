@@ -1,5 +1,5 @@
 -- Where no rule is broken, a statement of the grammar mentions once it is resolved what the rules of scope bind.
-use Rattle.std.proofs.Common.{◌≡◌, ◌∙◌, ap, sym, subst, ℕ, Bool, true, false, List, [], ◌∷◌, ◌++◌, map, Option, Some, None, refl}
+use Rattle.std.proofs.Common.{◌≡◌, ◌∙◌, ap, sym, subst, ℕ, Bool, true, false, List, [], ◌∷◌, ◌++◌, Option, Some, None, refl}
 use Rattle.c_grammar.specs.declared.expr.Expr.{Expr}
 use Rattle.c_grammar.specs.declared.stmt.Stmt.{Stmt}
 use Rattle.c_grammar.specs.declared.stmt.Stmt.TheVariants as stmt
@@ -14,20 +14,21 @@ use Rattle.c_scopes.specs.declared.declaration.Entity.TheVariants as entity
 use Rattle.c_types.specs.declared.site.Home.{Home}
 use Rattle.c_types.specs.declared.site.Rule.{Rule}
 use Rattle.c_types.specs.declared.site.Rule.TheVariants.{Shape}
-use Rattle.c_types.specs.declared.site.Site.{Site}
 use Rattle.c_types.specs.declared.site.Site.TheVariants as site
 use Rattle.c_types.specs.TypingRules.{Breaks}
 use Rattle.c_types.specs.TypingRules.Breaks.{outside_loop}
 use Rattle.c_scopes.specs.Scopes.{latest}
 use Rattle.c_types.specs.Sites
-use Rattle.c_types.specs.Sites.{ExprSites, Place, StmtSites, place_after, body_sites, expr_sites, inner_scope, list_sites, looped, part_sites, stmt_sites, stmts_in_turn}
+use Rattle.c_types.specs.Sites.{ExprSites, Place, StmtSites, place_after, expr_sites, inner_scope, looped, part_sites, stmt_sites, stmts_in_turn}
+use Rattle.c_types.specs.Walks.{body_sites}
 use Rattle.c_semantics.specs.ResolvedTree as Tree
 use Rattle.c_resolver.specs.Resolving
-use Rattle.c_resolver.specs.Resolving.{Resolved, ResolvedStmt, assignment_to, body_in, call_of, list_in, part_in, resolved, typed}
+use Rattle.c_resolver.specs.Resolving.{Resolved, ResolvedStmt, part_in, resolved, typed_expr}
+use Rattle.c_resolver.specs.ResolvingViews.{body_in, list_in}
 use Rattle.c_meaning.specs.Mentions.{Mention, bound, in_expr, in_part, in_stmt}
 use Rattle.c_meaning.specs.WellShaped.{HasSimpleHeads, JumpsInLoops, is_simple}
 use Rattle.c_resolver.proofs.Rows.{resolved-Block, declared-Block}
-use Rattle.c_meaning.proofs.Uses.{AllTakeNone, take_none-append, whole-bound, element-bound, call-bound}
+use Rattle.c_meaning.proofs.Uses.{assigned_to, called_by, AllTakeNone, take_none-append, whole-bound, element-bound, call-bound}
 use Rattle.c_meaning.proofs.MentionedExpressions.{Clean, clean-back, clean-front, Mentioned, mentioned-append, mentioned-by, Agrees, AgreesAll, expression_agrees, arguments_agree}
 
 -- A statement declares what its resolved form declares, none of it untrusted code with parameters, and mentions what its
@@ -71,7 +72,7 @@ abbrev binding : ℕ → Entity → Binding
 binding token e = record { token = token; entity = e }
 
 -- an assignment and a call are simple, whatever their names are bound to
-assignment-known : (token : ℕ) (e : Entity) (at : ℕ) (index : Option Tree.Expr) (value : Tree.Expr) → is_simple (assignment_to (Some (binding token e)) at index value) ≡ true
+assignment-known : (token : ℕ) (e : Entity) (at : ℕ) (index : Option Tree.Expr) (value : Tree.Expr) → is_simple (assigned_to (Some (binding token e)) at index value) ≡ true
 assignment-known token (entity.Local unsigned) at None value = refl
 assignment-known token (entity.Local unsigned) at (Some i) value = refl
 assignment-known token (entity.Object class unsigned length') at None value = refl
@@ -79,17 +80,17 @@ assignment-known token (entity.Object class unsigned None) at (Some i) value = r
 assignment-known token (entity.Object class unsigned (Some n)) at (Some i) value = refl
 assignment-known token (entity.Function result untrusted parameters) at index value = refl
 
-assignment-simple : (means : Option Binding) (at : ℕ) (index : Option Tree.Expr) (value : Tree.Expr) → is_simple (assignment_to means at index value) ≡ true
+assignment-simple : (means : Option Binding) (at : ℕ) (index : Option Tree.Expr) (value : Tree.Expr) → is_simple (assigned_to means at index value) ≡ true
 assignment-simple None at index value = refl
 assignment-simple (Some b) at index value = assignment-known b.token b.entity at index value
 
-call-known-simple : (fs : List ℕ) (token : ℕ) (e : Entity) (given : Tree.Arguments) → is_simple (call_of fs (Some (binding token e)) given) ≡ true
+call-known-simple : (fs : List ℕ) (token : ℕ) (e : Entity) (given : Tree.Arguments) → is_simple (called_by fs (Some (binding token e)) given) ≡ true
 call-known-simple fs token (entity.Local unsigned) given = refl
 call-known-simple fs token (entity.Object class unsigned length') given = refl
 call-known-simple fs token (entity.Function result true parameters) given = refl
 call-known-simple fs token (entity.Function result false parameters) given = refl
 
-call-simple : (fs : List ℕ) (means : Option Binding) (given : Tree.Arguments) → is_simple (call_of fs means given) ≡ true
+call-simple : (fs : List ℕ) (means : Option Binding) (given : Tree.Arguments) → is_simple (called_by fs means given) ≡ true
 call-simple fs None given = refl
 call-simple fs (Some b) given = call-known-simple fs b.token b.entity given
 
@@ -117,7 +118,7 @@ simple-heads other is = tt
 empty_agrees : (fs : List ℕ) (token : ℕ) → AgreesStmt true fs (resolved fs (stmt.Empty token)) (stmt_sites (stmt.Empty token))
 empty_agrees fs token =
     by_layer fs (stmt.Empty token) _ _
-    (ap (resolved fs) (sym (stmt.rolls-Empty token)) ∙ fold-roll-Stmt ResolvedStmt (Resolving.stmt_step fs) (Stmt-F.Empty token))
+    (ap (resolved fs) (sym (stmt.rolls-Empty token)) ∙ fold-roll-Stmt ResolvedStmt (Resolving.resolved_step fs) (Stmt-F.Empty token))
     (ap stmt_sites (sym (stmt.rolls-Empty token)) ∙ fold-roll-Stmt StmtSites Sites.stmt_sites_step (Stmt-F.Empty token))
     (record { declared = refl; takes = tt; sites = λ place takes clean. refl; jumps = λ place known clean. tt; heads = λ known. tt; simple = λ is known. refl })
 
@@ -125,7 +126,7 @@ local_agrees : (fs : List ℕ) (unsigned : Bool) (name : List ℕ) (value : Opti
     AgreesStmt true fs (resolved fs (stmt.Local unsigned name value token)) (stmt_sites (stmt.Local unsigned name value token))
 local_agrees fs unsigned name value token agrees =
     by_layer fs (stmt.Local unsigned name value token) _ _
-    (ap (resolved fs) (sym (stmt.rolls-Local unsigned name value token)) ∙ fold-roll-Stmt ResolvedStmt (Resolving.stmt_step fs) (Stmt-F.Local unsigned name value token))
+    (ap (resolved fs) (sym (stmt.rolls-Local unsigned name value token)) ∙ fold-roll-Stmt ResolvedStmt (Resolving.resolved_step fs) (Stmt-F.Local unsigned name value token))
     (ap stmt_sites (sym (stmt.rolls-Local unsigned name value token)) ∙ fold-roll-Stmt StmtSites Sites.stmt_sites_step (Stmt-F.Local unsigned name value token))
     (record {
       declared = refl;
@@ -136,49 +137,49 @@ local_agrees fs unsigned name value token agrees =
       simple = λ is known. refl;
     })
 
-assign_agrees : (fs : List ℕ) (name : List ℕ) (value : Expr) (token : ℕ) → Agrees fs (typed fs value) (expr_sites value) →
+assign_agrees : (fs : List ℕ) (name : List ℕ) (value : Expr) (token : ℕ) → Agrees fs (typed_expr fs value) (expr_sites value) →
     AgreesStmt true fs (resolved fs (stmt.Assign name None value token)) (stmt_sites (stmt.Assign name None value token))
 assign_agrees fs name value token agrees =
     by_layer fs (stmt.Assign name None value token) _ _
-    (ap (resolved fs) (sym (stmt.rolls-Assign name None value token)) ∙ fold-roll-Stmt ResolvedStmt (Resolving.stmt_step fs) (Stmt-F.Assign name None value token))
+    (ap (resolved fs) (sym (stmt.rolls-Assign name None value token)) ∙ fold-roll-Stmt ResolvedStmt (Resolving.resolved_step fs) (Stmt-F.Assign name None value token))
     (ap stmt_sites (sym (stmt.rolls-Assign name None value token)) ∙ fold-roll-Stmt StmtSites Sites.stmt_sites_step (Stmt-F.Assign name None value token))
     (record {
       declared = refl;
       takes = tt;
       sites = λ place takes clean.
-          whole-bound fs place.home token (latest place.scope.known name) token (typed fs value place.scope.known).expr clean.0
+          whole-bound fs place.home token (latest place.scope.known name) token (typed_expr fs value place.scope.known).expr clean.0
           ∙ ap (λ ms. bound fs (latest place.scope.known name) ++ ms) (agrees place.scope.known place.home clean.1);
-      jumps = λ place known clean. simple-jumps place.in_loop (assignment_to (latest known name) token None (typed fs value known).expr) (assignment-simple (latest known name) token None (typed fs value known).expr);
-      heads = λ known. simple-heads (assignment_to (latest known name) token None (typed fs value known).expr) (assignment-simple (latest known name) token None (typed fs value known).expr);
-      simple = λ is known. assignment-simple (latest known name) token None (typed fs value known).expr;
+      jumps = λ place known clean. simple-jumps place.in_loop (assigned_to (latest known name) token None (typed_expr fs value known).expr) (assignment-simple (latest known name) token None (typed_expr fs value known).expr);
+      heads = λ known. simple-heads (assigned_to (latest known name) token None (typed_expr fs value known).expr) (assignment-simple (latest known name) token None (typed_expr fs value known).expr);
+      simple = λ is known. assignment-simple (latest known name) token None (typed_expr fs value known).expr;
     })
 
-assign_at_agrees : (fs : List ℕ) (name : List ℕ) (index value : Expr) (token : ℕ) → Agrees fs (typed fs index) (expr_sites index) →
-    Agrees fs (typed fs value) (expr_sites value) →
+assign_at_agrees : (fs : List ℕ) (name : List ℕ) (index value : Expr) (token : ℕ) → Agrees fs (typed_expr fs index) (expr_sites index) →
+    Agrees fs (typed_expr fs value) (expr_sites value) →
     AgreesStmt true fs (resolved fs (stmt.Assign name (Some index) value token)) (stmt_sites (stmt.Assign name (Some index) value token))
 assign_at_agrees fs name index value token first second =
     by_layer fs (stmt.Assign name (Some index) value token) _ _
-    (ap (resolved fs) (sym (stmt.rolls-Assign name (Some index) value token)) ∙ fold-roll-Stmt ResolvedStmt (Resolving.stmt_step fs) (Stmt-F.Assign name (Some index) value token))
+    (ap (resolved fs) (sym (stmt.rolls-Assign name (Some index) value token)) ∙ fold-roll-Stmt ResolvedStmt (Resolving.resolved_step fs) (Stmt-F.Assign name (Some index) value token))
     (ap stmt_sites (sym (stmt.rolls-Assign name (Some index) value token)) ∙ fold-roll-Stmt StmtSites Sites.stmt_sites_step (Stmt-F.Assign name (Some index) value token))
     (record {
       declared = refl;
       takes = tt;
       sites = λ place takes clean.
-          element-bound fs place.home token (latest place.scope.known name) token (typed fs index place.scope.known).expr (typed fs value place.scope.known).expr clean.0
+          element-bound fs place.home token (latest place.scope.known name) token (typed_expr fs index place.scope.known).expr (typed_expr fs value place.scope.known).expr clean.0
           ∙ ap (λ ms. bound fs (latest place.scope.known name) ++ ms)
-          (mentioned-append fs (in_expr (typed fs index place.scope.known).expr) (in_expr (typed fs value place.scope.known).expr)
+          (mentioned-append fs (in_expr (typed_expr fs index place.scope.known).expr) (in_expr (typed_expr fs value place.scope.known).expr)
           (expr_sites index place.scope.known place.home) (expr_sites value place.scope.known place.home)
           (first place.scope.known place.home) (second place.scope.known place.home) clean.1);
-      jumps = λ place known clean. simple-jumps place.in_loop (assignment_to (latest known name) token (Some (typed fs index known).expr) (typed fs value known).expr) (assignment-simple (latest known name) token (Some (typed fs index known).expr) (typed fs value known).expr);
-      heads = λ known. simple-heads (assignment_to (latest known name) token (Some (typed fs index known).expr) (typed fs value known).expr) (assignment-simple (latest known name) token (Some (typed fs index known).expr) (typed fs value known).expr);
-      simple = λ is known. assignment-simple (latest known name) token (Some (typed fs index known).expr) (typed fs value known).expr;
+      jumps = λ place known clean. simple-jumps place.in_loop (assigned_to (latest known name) token (Some (typed_expr fs index known).expr) (typed_expr fs value known).expr) (assignment-simple (latest known name) token (Some (typed_expr fs index known).expr) (typed_expr fs value known).expr);
+      heads = λ known. simple-heads (assigned_to (latest known name) token (Some (typed_expr fs index known).expr) (typed_expr fs value known).expr) (assignment-simple (latest known name) token (Some (typed_expr fs index known).expr) (typed_expr fs value known).expr);
+      simple = λ is known. assignment-simple (latest known name) token (Some (typed_expr fs index known).expr) (typed_expr fs value known).expr;
     })
 
 call_agrees : (fs : List ℕ) (name : List ℕ) (es : List Expr) (token : ℕ) → AgreesAll fs es →
     AgreesStmt true fs (resolved fs (stmt.Call name es token)) (stmt_sites (stmt.Call name es token))
 call_agrees fs name es token agrees =
     by_layer fs (stmt.Call name es token) _ _
-    (ap (resolved fs) (sym (stmt.rolls-Call name es token)) ∙ fold-roll-Stmt ResolvedStmt (Resolving.stmt_step fs) (Stmt-F.Call name es token))
+    (ap (resolved fs) (sym (stmt.rolls-Call name es token)) ∙ fold-roll-Stmt ResolvedStmt (Resolving.resolved_step fs) (Stmt-F.Call name es token))
     (ap stmt_sites (sym (stmt.rolls-Call name es token)) ∙ fold-roll-Stmt StmtSites Sites.stmt_sites_step (Stmt-F.Call name es token))
     (record {
       declared = refl;
@@ -186,23 +187,23 @@ call_agrees fs name es token agrees =
       sites = λ place takes clean.
           call-bound fs place.scope.known place.home token name es takes clean.0
           ∙ ap (λ ms. bound fs (latest place.scope.known name) ++ ms) (agrees place.scope.known place.home clean.1);
-      jumps = λ place known clean. simple-jumps place.in_loop (call_of fs (latest known name) (list_in fs es known)) (call-simple fs (latest known name) (list_in fs es known));
-      heads = λ known. simple-heads (call_of fs (latest known name) (list_in fs es known)) (call-simple fs (latest known name) (list_in fs es known));
+      jumps = λ place known clean. simple-jumps place.in_loop (called_by fs (latest known name) (list_in fs es known)) (call-simple fs (latest known name) (list_in fs es known));
+      heads = λ known. simple-heads (called_by fs (latest known name) (list_in fs es known)) (call-simple fs (latest known name) (list_in fs es known));
       simple = λ is known. call-simple fs (latest known name) (list_in fs es known);
     })
 
-release_agrees : (fs : List ℕ) (value : Expr) (token : ℕ) → Agrees fs (typed fs value) (expr_sites value) →
+release_agrees : (fs : List ℕ) (value : Expr) (token : ℕ) → Agrees fs (typed_expr fs value) (expr_sites value) →
     AgreesStmt true fs (resolved fs (stmt.Release value token)) (stmt_sites (stmt.Release value token))
 release_agrees fs value token agrees =
     by_layer fs (stmt.Release value token) _ _
-    (ap (resolved fs) (sym (stmt.rolls-Release value token)) ∙ fold-roll-Stmt ResolvedStmt (Resolving.stmt_step fs) (Stmt-F.Release value token))
+    (ap (resolved fs) (sym (stmt.rolls-Release value token)) ∙ fold-roll-Stmt ResolvedStmt (Resolving.resolved_step fs) (Stmt-F.Release value token))
     (ap stmt_sites (sym (stmt.rolls-Release value token)) ∙ fold-roll-Stmt StmtSites Sites.stmt_sites_step (Stmt-F.Release value token))
     (record { declared = refl; takes = tt; sites = λ place takes clean. agrees place.scope.known place.home clean; jumps = λ place known clean. tt; heads = λ known. tt; simple = λ is known. refl })
 
 check_agrees : (fs : List ℕ) (token : ℕ) → AgreesStmt true fs (resolved fs (stmt.Check token)) (stmt_sites (stmt.Check token))
 check_agrees fs token =
     by_layer fs (stmt.Check token) _ _
-    (ap (resolved fs) (sym (stmt.rolls-Check token)) ∙ fold-roll-Stmt ResolvedStmt (Resolving.stmt_step fs) (Stmt-F.Check token))
+    (ap (resolved fs) (sym (stmt.rolls-Check token)) ∙ fold-roll-Stmt ResolvedStmt (Resolving.resolved_step fs) (Stmt-F.Check token))
     (ap stmt_sites (sym (stmt.rolls-Check token)) ∙ fold-roll-Stmt StmtSites Sites.stmt_sites_step (Stmt-F.Check token))
     (record { declared = refl; takes = tt; sites = λ place takes clean. refl; jumps = λ place known clean. tt; heads = λ known. tt; simple = λ is known. refl })
 
@@ -210,7 +211,7 @@ return_agrees : (fs : List ℕ) (value : Option Expr) (token : ℕ) → AgreesPa
     AgreesStmt false fs (resolved fs (stmt.Return value token)) (stmt_sites (stmt.Return value token))
 return_agrees fs value token agrees =
     by_layer fs (stmt.Return value token) _ _
-    (ap (resolved fs) (sym (stmt.rolls-Return value token)) ∙ fold-roll-Stmt ResolvedStmt (Resolving.stmt_step fs) (Stmt-F.Return value token))
+    (ap (resolved fs) (sym (stmt.rolls-Return value token)) ∙ fold-roll-Stmt ResolvedStmt (Resolving.resolved_step fs) (Stmt-F.Return value token))
     (ap stmt_sites (sym (stmt.rolls-Return value token)) ∙ fold-roll-Stmt StmtSites Sites.stmt_sites_step (Stmt-F.Return value token))
     (record { declared = refl; takes = tt; sites = λ place takes clean. agrees place.scope.known place.home clean.1; jumps = λ place known clean. tt; heads = λ known. tt; simple = λ is known. absurd (cc) })
 
@@ -221,27 +222,22 @@ in-loop false token clean = absurd (clean Shape (outside_loop token))
 break_agrees : (fs : List ℕ) (token : ℕ) → AgreesStmt false fs (resolved fs (stmt.Break token)) (stmt_sites (stmt.Break token))
 break_agrees fs token =
     by_layer fs (stmt.Break token) _ _
-    (ap (resolved fs) (sym (stmt.rolls-Break token)) ∙ fold-roll-Stmt ResolvedStmt (Resolving.stmt_step fs) (Stmt-F.Break token))
+    (ap (resolved fs) (sym (stmt.rolls-Break token)) ∙ fold-roll-Stmt ResolvedStmt (Resolving.resolved_step fs) (Stmt-F.Break token))
     (ap stmt_sites (sym (stmt.rolls-Break token)) ∙ fold-roll-Stmt StmtSites Sites.stmt_sites_step (Stmt-F.Break token))
     (record { declared = refl; takes = tt; sites = λ place takes clean. refl; jumps = λ place known clean. in-loop place.in_loop token clean.0; heads = λ known. tt; simple = λ is known. absurd (cc) })
 
 continue_agrees : (fs : List ℕ) (token : ℕ) → AgreesStmt false fs (resolved fs (stmt.Continue token)) (stmt_sites (stmt.Continue token))
 continue_agrees fs token =
     by_layer fs (stmt.Continue token) _ _
-    (ap (resolved fs) (sym (stmt.rolls-Continue token)) ∙ fold-roll-Stmt ResolvedStmt (Resolving.stmt_step fs) (Stmt-F.Continue token))
+    (ap (resolved fs) (sym (stmt.rolls-Continue token)) ∙ fold-roll-Stmt ResolvedStmt (Resolving.resolved_step fs) (Stmt-F.Continue token))
     (ap stmt_sites (sym (stmt.rolls-Continue token)) ∙ fold-roll-Stmt StmtSites Sites.stmt_sites_step (Stmt-F.Continue token))
     (record { declared = refl; takes = tt; sites = λ place takes clean. refl; jumps = λ place known clean. in-loop place.in_loop token clean.0; heads = λ known. tt; simple = λ is known. absurd (cc) })
 
 -- ---- blocks
 
-stmts_in_turn-map : (ss : List Stmt) (place : Place) → stmts_in_turn (map stmt_sites ss) place ≡ body_sites ss place
-stmts_in_turn-map [] place = refl
-stmts_in_turn-map (s ∷ ss) place = ap (λ sites. (stmt_sites s).sites place ++ sites) (stmts_in_turn-map ss (place_after (stmt_sites s).declared place))
-
 sites-Block : (body : List Stmt) (token : ℕ) (place : Place) → (stmt_sites (stmt.Block body token)).sites place ≡ body_sites body (inner_scope place)
 sites-Block body token place =
     ap (λ s. s.sites place) (ap stmt_sites (sym (stmt.rolls-Block body token)) ∙ fold-roll-Stmt StmtSites Sites.stmt_sites_step (Stmt-F.Block body token))
-    ∙ stmts_in_turn-map body (inner_scope place)
 
 sites_declared-Block : (body : List Stmt) (token : ℕ) → (stmt_sites (stmt.Block body token)).declared ≡ []
 sites_declared-Block body token =
@@ -277,17 +273,17 @@ one_agrees fs s ss first later place takes =
 nothing_agrees : (fs : List ℕ) → AgreesStmt true fs (Resolving.resolved_if_any None) (Sites.sites_if_any None)
 nothing_agrees fs = record { declared = refl; takes = tt; sites = λ place takes clean. refl; jumps = λ place known clean. tt; heads = λ known. tt; simple = λ is known. refl }
 
-if_parts_agree : {k m : Bool} (fs : List ℕ) (test : Expr) (rb ro : ResolvedStmt) (sb so : StmtSites) → Agrees fs (typed fs test) (expr_sites test) →
+if_parts_agree : {k m : Bool} (fs : List ℕ) (test : Expr) (rb ro : ResolvedStmt) (sb so : StmtSites) → Agrees fs (typed_expr fs test) (expr_sites test) →
     AgreesStmt k fs rb sb → AgreesStmt m fs ro so →
-    AgreesStmt false fs (Resolving.only_resolved (λ known. Tree.If (typed fs test known).expr (rb.at known) (ro.at known)))
+    AgreesStmt false fs (Resolving.only_resolved (λ known. Tree.If (typed_expr fs test known).expr (rb.at known) (ro.at known)))
     (Sites.only_sites (λ place. expr_sites test place.scope.known place.home ++ sb.sites (inner_scope place) ++ so.sites (inner_scope place)))
 if_parts_agree fs test rb ro sb so first body other = record {
   declared = refl;
   takes = tt;
   sites = λ place takes.
-      mentioned-append fs (in_expr (typed fs test place.scope.known).expr ++ in_stmt (rb.at place.scope.known)) (in_stmt (ro.at place.scope.known))
+      mentioned-append fs (in_expr (typed_expr fs test place.scope.known).expr ++ in_stmt (rb.at place.scope.known)) (in_stmt (ro.at place.scope.known))
       (expr_sites test place.scope.known place.home ++ sb.sites (inner_scope place)) (so.sites (inner_scope place))
-      (mentioned-append fs (in_expr (typed fs test place.scope.known).expr) (in_stmt (rb.at place.scope.known))
+      (mentioned-append fs (in_expr (typed_expr fs test place.scope.known).expr) (in_stmt (rb.at place.scope.known))
       (expr_sites test place.scope.known place.home) (sb.sites (inner_scope place))
       (first place.scope.known place.home) (body.sites (inner_scope place) takes))
       (other.sites (inner_scope place) takes);
@@ -302,34 +298,34 @@ if_parts_agree fs test rb ro sb so first body other = record {
   simple = λ not. absurd (cc);
 }
 
-if_agrees : (fs : List ℕ) (test : Expr) (body : Stmt) (token : ℕ) → Agrees fs (typed fs test) (expr_sites test) →
+if_agrees : (fs : List ℕ) (test : Expr) (body : Stmt) (token : ℕ) → Agrees fs (typed_expr fs test) (expr_sites test) →
     AgreesStmt false fs (resolved fs body) (stmt_sites body) → AgreesStmt false fs (resolved fs (stmt.If test body None token)) (stmt_sites (stmt.If test body None token))
 if_agrees fs test body token first second =
     by_layer fs (stmt.If test body None token) _ _
-    (ap (resolved fs) (sym (stmt.rolls-If test body None token)) ∙ fold-roll-Stmt ResolvedStmt (Resolving.stmt_step fs) (Stmt-F.If test body None token))
+    (ap (resolved fs) (sym (stmt.rolls-If test body None token)) ∙ fold-roll-Stmt ResolvedStmt (Resolving.resolved_step fs) (Stmt-F.If test body None token))
     (ap stmt_sites (sym (stmt.rolls-If test body None token)) ∙ fold-roll-Stmt StmtSites Sites.stmt_sites_step (Stmt-F.If test body None token))
     (if_parts_agree fs test (resolved fs body) (Resolving.resolved_if_any None) (stmt_sites body) (Sites.sites_if_any None) first second (nothing_agrees fs))
 
-if_else_agrees : (fs : List ℕ) (test : Expr) (body other : Stmt) (token : ℕ) → Agrees fs (typed fs test) (expr_sites test) →
+if_else_agrees : (fs : List ℕ) (test : Expr) (body other : Stmt) (token : ℕ) → Agrees fs (typed_expr fs test) (expr_sites test) →
     AgreesStmt false fs (resolved fs body) (stmt_sites body) → AgreesStmt false fs (resolved fs other) (stmt_sites other) →
     AgreesStmt false fs (resolved fs (stmt.If test body (Some other) token)) (stmt_sites (stmt.If test body (Some other) token))
 if_else_agrees fs test body other token first second third =
     by_layer fs (stmt.If test body (Some other) token) _ _
-    (ap (resolved fs) (sym (stmt.rolls-If test body (Some other) token)) ∙ fold-roll-Stmt ResolvedStmt (Resolving.stmt_step fs) (Stmt-F.If test body (Some other) token))
+    (ap (resolved fs) (sym (stmt.rolls-If test body (Some other) token)) ∙ fold-roll-Stmt ResolvedStmt (Resolving.resolved_step fs) (Stmt-F.If test body (Some other) token))
     (ap stmt_sites (sym (stmt.rolls-If test body (Some other) token)) ∙ fold-roll-Stmt StmtSites Sites.stmt_sites_step (Stmt-F.If test body (Some other) token))
     (if_parts_agree fs test (resolved fs body) (resolved fs other) (stmt_sites body) (stmt_sites other) first second third)
 
-while_agrees : (fs : List ℕ) (test : Expr) (body : Stmt) (token : ℕ) → Agrees fs (typed fs test) (expr_sites test) →
+while_agrees : (fs : List ℕ) (test : Expr) (body : Stmt) (token : ℕ) → Agrees fs (typed_expr fs test) (expr_sites test) →
     AgreesStmt false fs (resolved fs body) (stmt_sites body) → AgreesStmt false fs (resolved fs (stmt.While test body token)) (stmt_sites (stmt.While test body token))
 while_agrees fs test body token first second =
     by_layer fs (stmt.While test body token) _ _
-    (ap (resolved fs) (sym (stmt.rolls-While test body token)) ∙ fold-roll-Stmt ResolvedStmt (Resolving.stmt_step fs) (Stmt-F.While test body token))
+    (ap (resolved fs) (sym (stmt.rolls-While test body token)) ∙ fold-roll-Stmt ResolvedStmt (Resolving.resolved_step fs) (Stmt-F.While test body token))
     (ap stmt_sites (sym (stmt.rolls-While test body token)) ∙ fold-roll-Stmt StmtSites Sites.stmt_sites_step (Stmt-F.While test body token))
     (record {
       declared = refl;
       takes = tt;
       sites = λ place takes.
-          mentioned-append fs (in_expr (typed fs test place.scope.known).expr) (in_stmt ((resolved fs body).at place.scope.known))
+          mentioned-append fs (in_expr (typed_expr fs test place.scope.known).expr) (in_stmt ((resolved fs body).at place.scope.known))
           (expr_sites test place.scope.known place.home) ((stmt_sites body).sites (looped place))
           (first place.scope.known place.home) (second.sites (looped place) takes);
       jumps = λ place known clean. second.jumps (looped place) known (clean-back (expr_sites test place.scope.known place.home) ((stmt_sites body).sites (looped place)) clean);
@@ -390,22 +386,22 @@ for_agrees : (fs : List ℕ) (first : Option Stmt) (test : Option Expr) (step : 
     AgreesStmt false fs (resolved fs (stmt.For first test step body token)) (stmt_sites (stmt.For first test step body token))
 for_agrees fs None test None body token a b c d =
     by_layer fs (stmt.For None test None body token) _ _
-    (ap (resolved fs) (sym (stmt.rolls-For None test None body token)) ∙ fold-roll-Stmt ResolvedStmt (Resolving.stmt_step fs) (Stmt-F.For None test None body token))
+    (ap (resolved fs) (sym (stmt.rolls-For None test None body token)) ∙ fold-roll-Stmt ResolvedStmt (Resolving.resolved_step fs) (Stmt-F.For None test None body token))
     (ap stmt_sites (sym (stmt.rolls-For None test None body token)) ∙ fold-roll-Stmt StmtSites Sites.stmt_sites_step (Stmt-F.For None test None body token))
     (for_parts_agree fs (branch fs None) (branch fs None) (resolved fs body) (branch_sites None) (branch_sites None) (stmt_sites body) test a b c d)
 for_agrees fs None test (Some step) body token a b c d =
     by_layer fs (stmt.For None test (Some step) body token) _ _
-    (ap (resolved fs) (sym (stmt.rolls-For None test (Some step) body token)) ∙ fold-roll-Stmt ResolvedStmt (Resolving.stmt_step fs) (Stmt-F.For None test (Some step) body token))
+    (ap (resolved fs) (sym (stmt.rolls-For None test (Some step) body token)) ∙ fold-roll-Stmt ResolvedStmt (Resolving.resolved_step fs) (Stmt-F.For None test (Some step) body token))
     (ap stmt_sites (sym (stmt.rolls-For None test (Some step) body token)) ∙ fold-roll-Stmt StmtSites Sites.stmt_sites_step (Stmt-F.For None test (Some step) body token))
     (for_parts_agree fs (branch fs None) (resolved fs step) (resolved fs body) (branch_sites None) (stmt_sites step) (stmt_sites body) test a b c d)
 for_agrees fs (Some first) test None body token a b c d =
     by_layer fs (stmt.For (Some first) test None body token) _ _
-    (ap (resolved fs) (sym (stmt.rolls-For (Some first) test None body token)) ∙ fold-roll-Stmt ResolvedStmt (Resolving.stmt_step fs) (Stmt-F.For (Some first) test None body token))
+    (ap (resolved fs) (sym (stmt.rolls-For (Some first) test None body token)) ∙ fold-roll-Stmt ResolvedStmt (Resolving.resolved_step fs) (Stmt-F.For (Some first) test None body token))
     (ap stmt_sites (sym (stmt.rolls-For (Some first) test None body token)) ∙ fold-roll-Stmt StmtSites Sites.stmt_sites_step (Stmt-F.For (Some first) test None body token))
     (for_parts_agree fs (resolved fs first) (branch fs None) (resolved fs body) (stmt_sites first) (branch_sites None) (stmt_sites body) test a b c d)
 for_agrees fs (Some first) test (Some step) body token a b c d =
     by_layer fs (stmt.For (Some first) test (Some step) body token) _ _
-    (ap (resolved fs) (sym (stmt.rolls-For (Some first) test (Some step) body token)) ∙ fold-roll-Stmt ResolvedStmt (Resolving.stmt_step fs) (Stmt-F.For (Some first) test (Some step) body token))
+    (ap (resolved fs) (sym (stmt.rolls-For (Some first) test (Some step) body token)) ∙ fold-roll-Stmt ResolvedStmt (Resolving.resolved_step fs) (Stmt-F.For (Some first) test (Some step) body token))
     (ap stmt_sites (sym (stmt.rolls-For (Some first) test (Some step) body token)) ∙ fold-roll-Stmt StmtSites Sites.stmt_sites_step (Stmt-F.For (Some first) test (Some step) body token))
     (for_parts_agree fs (resolved fs first) (resolved fs step) (resolved fs body) (stmt_sites first) (stmt_sites step) (stmt_sites body) test a b c d)
 

@@ -1,5 +1,5 @@
 -- The shape of resolved programs.
-use Rattle.std.proofs.Common.{◌≡◌, ◌∙◌, ap, sym, ◌⊎◌, inl, inr, zero, suc, ℕ, ◌+◌, ◌≤◌, ◌<◌, List, [], ◌∷◌, ◌++◌, length, Option, Some, None, arith, refl, append_assoc}
+use Rattle.std.proofs.Common.{◌≡◌, ◌∙◌, sym, ◌⊎◌, inl, inr, zero, suc, ℕ, ◌+◌, ◌≤◌, ◌<◌, List, [], ◌∷◌, ◌++◌, length, Option, Some, None, arith, refl, append_assoc}
 use Rattle.aegis_num.specs.declared.limits.TheConstants.{MAX_ARRAY_LENGTH}
 use Rattle.c_grammar.specs.declared.item.Item.{Item}
 use Rattle.c_grammar.specs.declared.item.Item.TheVariants as item
@@ -9,14 +9,15 @@ use Rattle.c_grammar.specs.ProgramGrammar.{IsItem, AreItems}
 use Rattle.c_scopes.specs.declared.declaration.Declaration.{Declaration}
 use Rattle.c_scopes.specs.Declarations.{declaration_of, declarations_of, parameters_of}
 use Rattle.c_types.specs.declared.site.Rule.TheVariants.{TooLong}
-use Rattle.c_types.specs.Sites.{body_sites, in_function, item_sites, length_sites, parameter_sites, place_after}
+use Rattle.c_types.specs.Sites.{in_function, item_sites, length_sites, parameter_sites, place_after}
+use Rattle.c_types.specs.Walks.{body_sites}
 use Rattle.c_types.specs.TypingRules.Breaks.{no_elements, too_long}
 use Rattle.c_types.specs.Checked.{IsReadProgram, KeepsRules}
 use Rattle.c_types.proofs.Answered.{few}
 use Rattle.c_semantics.specs.ResolvedTree as Tree
 use Rattle.c_resolver.specs.Resolving.{function_tokens, functions_in, objects_in, plain_program}
 use Rattle.c_meaning.specs.Mentions.{items_sites}
-use Rattle.c_meaning.specs.WellShaped.{AreWellShaped, FitLengths, FitsLength, IsWellShaped}
+use Rattle.c_meaning.specs.WellShaped.{AreWellShaped, FitLengths, FitsLength}
 use Rattle.c_meaning.proofs.Listed.{parameters-length}
 use Rattle.c_meaning.proofs.MentionedExpressions.{Clean, clean-back, clean-front}
 use Rattle.c_meaning.proofs.MentionedStatements.{body_heads, body_jumps}

@@ -1,5 +1,5 @@
 -- Each word on the shape of resolved programs, where it holds and where it does not.
-use Rattle.std.proofs.Common.{◌≡◌, ℕ, ◌≤◌, Bool, true, false, List, [], ◌∷◌, length, map, codes, Option, Some, None, arith, refl}
+use Rattle.std.proofs.Common.{◌≡◌, true, false, List, [], ◌∷◌, map, codes, Some, None, arith, refl}
 use Rattle.regions.specs.declared.rights.Class.TheVariants.{Private}
 use Rattle.c_grammar.specs.declared.item.Kind3.TheVariants.{Int, Void}
 use Rattle.c_types.specs.declared.checked.Function.{Function}
