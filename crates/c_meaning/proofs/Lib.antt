@@ -1,10 +1,19 @@
+pub mod Counts
+pub mod DeclaredOnce
+pub mod Layers
 pub mod Listed
 pub mod Uses
+pub mod UsesAgree
 pub mod MentionedExpressions
 pub mod MentionedStatements
 pub mod MentionedPrograms
 pub mod MentionedExamples
+pub mod NamedExpressions
+pub mod NamedStatements
 pub mod Numbers
 pub mod MainFound
+pub mod PlacedExpressions
+pub mod PlacedStatements
+pub mod Places
 pub mod Shaped
 mod ShapedExamples

@@ -26,7 +26,7 @@ use Rattle.c_resolver.specs.Resolving
 use Rattle.c_resolver.specs.Resolving.{Resolved, ResolvedStmt, part_in, resolved, typed_expr}
 use Rattle.c_resolver.specs.ResolvingViews.{body_in, list_in}
 use Rattle.c_meaning.specs.Mentions.{Mention, bound, in_expr, in_part, in_stmt}
-use Rattle.c_meaning.specs.WellShaped.{HasSimpleHeads, JumpsInLoops, is_simple}
+use Rattle.c_semantics.specs.ProgramShape.{HasSimpleHeads, JumpsInLoops, is_simple}
 use Rattle.c_resolver.proofs.Rows.{resolved-Block, declared-Block}
 use Rattle.c_meaning.proofs.Uses.{assigned_to, called_by, AllTakeNone, take_none-append, whole-bound, element-bound, call-bound}
 use Rattle.c_meaning.proofs.MentionedExpressions.{Clean, clean-back, clean-front, Mentioned, mentioned-append, mentioned-by, Agrees, AgreesAll, expression_agrees, arguments_agree}

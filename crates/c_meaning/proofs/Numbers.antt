@@ -21,7 +21,7 @@ use Rattle.c_meaning.proofs.Listed.{tokens-counted}
 
 -- ---- places of tokens in a row
 
-abbrev From : ℕ → List Bounded → Type 0
+abbrev pub From : ℕ → List Bounded → Type 0
 From n [] = Unit {0}
 From n (t ∷ ts) = (t.spot.place ≡ n) × From (suc n) ts
 
@@ -33,12 +33,12 @@ from-back : (n : ℕ) (ts us : List Bounded) → From n (ts ++ us) → From (n +
 from-back n [] us from = subst (λ m. From m us) (omega arith) from
 from-back n (t ∷ ts) us from = subst (λ m. From m us) (omega arith) (from-back (suc n) ts us from.1)
 
-from-numbered : (n : ℕ) (ks : List Kind) → From n (bounded_all limit (numbered n ks))
+pub from-numbered : (n : ℕ) (ks : List Kind) → From n (bounded_all limit (numbered n ks))
 from-numbered n [] = tt
 from-numbered n (k ∷ ks) = (refl, from-numbered (suc n) ks)
 
 -- a place is that of one of these tokens
-abbrev Has : ℕ → List Bounded → Type 0
+abbrev pub Has : ℕ → List Bounded → Type 0
 Has place [] = ⊥
 Has place (t ∷ ts) = (t.spot.place ≡ place) ⊎ Has place ts
 
@@ -46,14 +46,14 @@ has-back : (place : ℕ) (ts us : List Bounded) → Has place us → Has place (
 has-back place [] us has = has
 has-back place (t ∷ ts) us has = inr (has-back place ts us has)
 
-has-within : (n place : ℕ) (ts : List Bounded) → From n ts → Has place ts → (n ≤ place) × (place < n + length ts)
+pub has-within : (n place : ℕ) (ts : List Bounded) → From n ts → Has place ts → (n ≤ place) × (place < n + length ts)
 has-within n place [] from has = absurd has
 has-within n place (t ∷ ts) from (inl here) = (omega (arith, here, from.0), omega (arith, here, from.0))
 has-within n place (t ∷ ts) from (inr later) =
     let r = has-within (suc n) place ts from.1 later in
     (omega (arith, r.0), omega (arith, r.1))
 
-item-has : {ts : List Bounded} {x : Item} → IsItem ts x → Has (token_of x) ts
+pub item-has : {ts : List Bounded} {x : Item} → IsItem ts x → Has (token_of x) ts
 item-has (IsItem.object {ts = ts} {us = us} first at end text a b c) = has-back at.place ts _ (has-back at.place us _ (inl refl))
 item-has (IsItem.constant {ts = ts} const first at equals end text a b c) = inr (has-back at.place ts _ (inl refl))
 item-has (IsItem.untrusted first void at left inner right end text) = inr (inr (inl refl))
@@ -61,7 +61,7 @@ item-has (IsItem.function {ts = ts} {us = us} at left right start end text a b c
 
 -- ---- tokens of names ascend
 
-abbrev Ascends : ℕ → List Item → Type 0
+abbrev pub Ascends : ℕ → List Item → Type 0
 Ascends n [] = Unit {0}
 Ascends n (x ∷ xs) = (n ≤ token_of x) × Ascends (suc (token_of x)) xs
 
@@ -69,13 +69,13 @@ ascends-less : (m n : ℕ) (xs : List Item) → m ≤ n → Ascends n xs → Asc
 ascends-less m n [] le ascends = tt
 ascends-less m n (x ∷ xs) le ascends = (omega (arith, le, ascends.0), ascends.1)
 
-items-ascend : {ts : List Bounded} {xs : List Item} → AreItems ts xs → (n : ℕ) → From n ts → Ascends n xs
+pub items-ascend : {ts : List Bounded} {xs : List Item} → AreItems ts xs → (n : ℕ) → From n ts → Ascends n xs
 items-ascend AreItems.nothing n from = tt
 items-ascend (AreItems.further {ts = ts} {us = us} {x = x} {xs = xs} d ds) n from =
     let within = has-within n (token_of x) ts (from-front n ts us from) (item-has d) in
     (within.0, ascends-less (suc (token_of x)) (n + length ts) xs (omega (arith, within.1)) (items-ascend ds (n + length ts) (from-back n ts us from)))
 
-ascends-above : (n : ℕ) (before after : List Item) (x : Item) → Ascends n (before ++ x ∷ after) → n ≤ token_of x
+pub ascends-above : (n : ℕ) (before after : List Item) (x : Item) → Ascends n (before ++ x ∷ after) → n ≤ token_of x
 ascends-above n [] after x ascends = ascends.0
 ascends-above n (y ∷ before) after x ascends = omega (arith, ascends.0, ascends-above (suc (token_of y)) before after x ascends.1)
 
@@ -106,7 +106,7 @@ number-before n (item.Function private' result' name' parameters' body' t ∷ be
 after-one : (known : List Declaration) (d e : Declaration) (ds : List Declaration) → ((known ++ d ∷ []) ++ ds) ++ e ∷ [] ≡ (known ++ (d ∷ ds)) ++ e ∷ []
 after-one known d e ds = ap (λ l. l ++ e ∷ []) (append_assoc known (d ∷ []) ds)
 
-body-led : (fs : List ℕ) (known : List Declaration) (before after : List Item) (private : Bool) (result : Kind3) (name : List ℕ) (parameters : List Parameter) (body : List Stmt) (token : ℕ) →
+pub body-led : (fs : List ℕ) (known : List Declaration) (before after : List Item) (private : Bool) (result : Kind3) (name : List ℕ) (parameters : List Parameter) (body : List Stmt) (token : ℕ) →
     slice_get (functions_in fs (before ++ item.Function private result name parameters body token ∷ after) known) (length (function_tokens before))
     ≡ Some (function_in fs private parameters body ((known ++ declarations_of before) ++ declaration_of (item.Function private result name parameters body token) ∷ []))
 body-led fs known [] after private result name parameters body token =
@@ -128,7 +128,7 @@ body-led fs known (item.Function private' result' name' parameters' body' t ∷ 
     body-led fs (known ++ d ∷ []) before after private result name parameters body token
     ∙ ap (λ l. Some (function_in fs private parameters body l)) (after-one known d (declaration_of (item.Function private result name parameters body token)) (declarations_of before))
 
-number-counted : (p : Program) → IsReadProgram p →
+pub number-counted : (p : Program) → IsReadProgram p →
     (before after : List Item) (private : Bool) (result : Kind3) (name : List ℕ) (parameters : List Parameter) (body : List Stmt) (token : ℕ) →
     p.items ≡ before ++ item.Function private result name parameters body token ∷ after →
     function_number (function_tokens p.items) token ≡ length (function_tokens before)

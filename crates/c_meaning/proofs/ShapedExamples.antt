@@ -1,89 +1,30 @@
--- Each word on the shape of resolved programs, where it holds and where it does not.
-use Rattle.std.proofs.Common.{◌≡◌, true, false, List, [], ◌∷◌, map, codes, Some, None, arith, refl}
+-- Each word on what is listed, on the tokens of tests and on nodes, where it holds and where it does not.
+use Rattle.std.proofs.Common.{◌≡◌, ℕ, Bool, true, false, List, [], ◌∷◌, map, codes, Option, Some, None, refl}
+use Rattle.aegis_num.specs.declared.operators.BinaryOp.TheVariants as op
 use Rattle.regions.specs.declared.rights.Class.TheVariants.{Private}
+use Rattle.c_token.specs.declared.kinds.Kind.{Kind}
+use Rattle.c_token.specs.declared.kinds.Kind.TheVariants as kind
+use Rattle.c_token.specs.declared.signs.Sign.TheVariants as sign
 use Rattle.c_grammar.specs.declared.item.Kind3.TheVariants.{Int, Void}
+use Rattle.c_grammar.specs.declared.expr.Expr.{Expr}
+use Rattle.c_grammar.specs.declared.expr.Expr.TheVariants as expr
+use Rattle.c_grammar.specs.declared.stmt.Stmt.{Stmt}
+use Rattle.c_grammar.specs.declared.stmt.Stmt.TheVariants as stmt
+use Rattle.c_grammar.specs.declared.item.Item.TheVariants as item
+use Rattle.c_grammar.specs.declared.item.Storage.TheVariants.{Shared}
 use Rattle.c_types.specs.declared.checked.Function.{Function}
 use Rattle.c_semantics.specs.declared.tree.Variable.{Variable}
 use Rattle.c_semantics.specs.ResolvedTree as Tree
 use Rattle.c_meaning.specs.FunctionNumbers.{listed_kept, listed_shape, resolved_kept, resolved_shape, trusted}
-use Rattle.c_meaning.specs.WellShaped.{AreWellShaped, FitLengths, FitsLength, HasSimpleHeads, IsWellShaped, JumpsInLoops, is_simple}
-
-abbrev one : Tree.Expr
-one = Tree.Number 1
+use Rattle.c_meaning.specs.SourceNodes.{expr_count, items_count, stmt_count}
+use Rattle.c_meaning.proofs.Counts.{counts}
+use Rattle.c_meaning.specs.TestTokens.{ArgumentsStand, ExprStands, FunctionsStand, StmtStands}
 
 abbrev x : Variable
 x = record { token = 5; class = None }
 
-abbrev simple_ones : List Tree.Stmt
-simple_ones = Tree.Nothing ∷ Tree.Empty ∷ Tree.Local x None ∷ Tree.Assign x one ∷ Tree.Store 3 x 2 one one ∷ Tree.Call 0 Tree.NoArguments
-    ∷ Tree.Suspend ∷ Tree.Release one ∷ Tree.Check ∷ []
-
-abbrev other_ones : List Tree.Stmt
-other_ones = Tree.Then Tree.Empty Tree.Empty ∷ Tree.Block Tree.Empty ∷ Tree.Return None ∷ Tree.Break ∷ Tree.Continue ∷ Tree.If one Tree.Empty Tree.Nothing
-    ∷ Tree.While one Tree.Empty ∷ Tree.For Tree.Nothing None Tree.Nothing Tree.Empty ∷ []
-
-simple_forms : map is_simple simple_ones ≡ true ∷ true ∷ true ∷ true ∷ true ∷ true ∷ true ∷ true ∷ true ∷ []
-simple_forms = refl
-
-other_forms : map is_simple other_ones ≡ false ∷ false ∷ false ∷ false ∷ false ∷ false ∷ false ∷ false ∷ []
-other_forms = refl
-
--- ---- heads of a `for`
-
 abbrev loop : Tree.Stmt
-loop = Tree.While one Tree.Empty
-
-abbrev in_first : Tree.Stmt
-in_first = Tree.For loop None Tree.Nothing Tree.Empty
-
-plain_head : HasSimpleHeads (Tree.For (Tree.Local x None) (Some one) (Tree.Assign x one) loop)
-plain_head = (refl, refl, tt)
-
-first_refused : HasSimpleHeads in_first → ⊥
-first_refused h = let e = h.0 in absurd (cc)
-
-step_refused : HasSimpleHeads (Tree.For Tree.Nothing None loop Tree.Empty) → ⊥
-step_refused h = let e = h.1 in absurd (cc)
-
-refused_inside : (HasSimpleHeads (Tree.Then in_first Tree.Empty) → ⊥) × (HasSimpleHeads (Tree.Then Tree.Empty in_first) → ⊥)
-    × (HasSimpleHeads (Tree.Block in_first) → ⊥) × (HasSimpleHeads (Tree.If one in_first Tree.Nothing) → ⊥) × (HasSimpleHeads (Tree.If one Tree.Empty in_first) → ⊥)
-    × (HasSimpleHeads (Tree.While one in_first) → ⊥) × (HasSimpleHeads (Tree.For Tree.Nothing None Tree.Nothing in_first) → ⊥)
-refused_inside = (λ h. first_refused h.0, λ h. first_refused h.1, first_refused, λ h. first_refused h.0, λ h. first_refused h.1, first_refused, λ h. first_refused h.2)
-
--- ---- jumps
-
-jumps_in_loops : JumpsInLoops false (Tree.Then (Tree.While one (Tree.Block Tree.Break)) (Tree.For Tree.Nothing None Tree.Nothing (Tree.If one Tree.Continue Tree.Break)))
-jumps_in_loops = (refl, (refl, refl))
-
-break_refused : JumpsInLoops false Tree.Break → ⊥
-break_refused e = absurd (cc)
-
-continue_refused : JumpsInLoops false Tree.Continue → ⊥
-continue_refused e = absurd (cc)
-
-jumps_refused_inside : (JumpsInLoops false (Tree.Then Tree.Break Tree.Empty) → ⊥) × (JumpsInLoops false (Tree.Then Tree.Empty Tree.Break) → ⊥)
-    × (JumpsInLoops false (Tree.Block Tree.Break) → ⊥) × (JumpsInLoops false (Tree.If one Tree.Break Tree.Nothing) → ⊥) × (JumpsInLoops false (Tree.If one Tree.Empty Tree.Break) → ⊥)
-jumps_refused_inside = (λ h. break_refused h.0, λ h. break_refused h.1, break_refused, λ h. break_refused h.0, λ h. break_refused h.1)
-
--- ---- lengths and parameters
-
-fitting : FitsLength None × FitsLength (Some 1) × FitsLength (Some 65536)
-fitting = (tt, (omega arith, omega arith), (omega arith, omega arith))
-
-no_elements_refused : FitsLength (Some 0) → ⊥
-no_elements_refused h = absurd (omega (arith, h.0))
-
-too_long_refused : FitsLength (Some 65537) → ⊥
-too_long_refused h = absurd (omega (arith, h.1))
-
-second_refused : FitLengths (record { variable = x; length = Some 3; first = [] } ∷ record { variable = x; length = Some 0; first = [] } ∷ []) → ⊥
-second_refused h = no_elements_refused h.1.0
-
-six : IsWellShaped (record { private = false; parameters = x ∷ x ∷ x ∷ x ∷ x ∷ x ∷ []; body = loop })
-six = record { parameters = omega arith; heads = tt; jumps = tt }
-
-seven_refused : AreWellShaped (record { private = false; parameters = []; body = loop } ∷ record { private = false; parameters = x ∷ x ∷ x ∷ x ∷ x ∷ x ∷ x ∷ []; body = loop } ∷ []) → ⊥
-seven_refused h = absurd (omega (arith, h.1.0.parameters))
+loop = Tree.While (Tree.Number 1) Tree.Empty
 
 -- ---- what is listed
 
@@ -102,3 +43,100 @@ shape_of_f = refl
 kept : resolved_kept (record { variable = record { token = 1; class = Some Private }; length = Some 3; first = [] })
     ≡ listed_kept (record { name = codes "a"; class = Private; unsigned = true; length = Some 3 })
 kept = refl
+
+-- ---- tokens of tests
+
+-- the tokens of a [ 1 ] / 2
+abbrev kinds : List Kind
+kinds = kind.Name (codes "a") ∷ kind.Sign sign.LeftBracket ∷ kind.Number 1 false ∷ kind.Sign sign.RightBracket ∷ kind.Sign sign.Slash ∷ kind.Number 2 false ∷ []
+
+abbrev one : Tree.Expr
+one = Tree.Number 1
+
+abbrev quotient : ℕ → ℕ → Tree.Expr
+quotient bracket slash = Tree.Binary slash op.DivU (Tree.Indexed bracket x 3 one) (Tree.Number 2)
+
+at_their_signs : ExprStands kinds (quotient 1 4)
+at_their_signs = (refl, (refl, tt), tt)
+
+-- a test at another token, at none, and at the sign of another operator
+other_bracket : ExprStands kinds (quotient 0 4) → ⊥
+other_bracket h = let e = h.1.0 in absurd (cc)
+
+no_bracket : ExprStands kinds (quotient 6 4) → ⊥
+no_bracket h = let e = h.1.0 in absurd (cc)
+
+other_slash : ExprStands kinds (quotient 1 5) → ⊥
+other_slash h = let e = h.0 in absurd (cc)
+
+other_operator : ExprStands kinds (Tree.Binary 4 op.RemS one one) → ⊥
+other_operator h = let e = h.0 in absurd (cc)
+
+abbrev wrong : Tree.Expr
+wrong = Tree.Indexed 0 x 3 one
+
+wrong_refused : ExprStands kinds wrong → ⊥
+wrong_refused h = let e = h.0 in absurd (cc)
+
+inside_expressions : (ExprStands kinds (Tree.Indexed 1 x 3 wrong) → ⊥) × (ExprStands kinds (Tree.Called 0 (Tree.Argument one (Tree.Argument wrong Tree.NoArguments))) → ⊥)
+    × (ExprStands kinds (Tree.Binary 4 op.DivS wrong one) → ⊥) × (ExprStands kinds (Tree.Binary 4 op.DivS one wrong) → ⊥)
+    × (ExprStands kinds (Tree.Both wrong one) → ⊥) × (ExprStands kinds (Tree.Both one wrong) → ⊥) × (ExprStands kinds (Tree.Either wrong one) → ⊥) × (ExprStands kinds (Tree.Either one wrong) → ⊥)
+inside_expressions = (λ h. wrong_refused h.1, λ h. wrong_refused h.1.0, λ h. wrong_refused h.1, λ h. wrong_refused h.2, λ h. wrong_refused h.0, λ h. wrong_refused h.1, λ h. wrong_refused h.0, λ h. wrong_refused h.1)
+
+stores : StmtStands kinds (Tree.Store 1 x 3 one (quotient 1 4))
+stores = (refl, tt, at_their_signs)
+
+inside_statements : (StmtStands kinds (Tree.Store 0 x 3 one one) → ⊥) × (StmtStands kinds (Tree.Store 1 x 3 wrong one) → ⊥) × (StmtStands kinds (Tree.Store 1 x 3 one wrong) → ⊥)
+    × (StmtStands kinds (Tree.Local x (Some wrong)) → ⊥) × (StmtStands kinds (Tree.Assign x wrong) → ⊥) × (StmtStands kinds (Tree.Call 0 (Tree.Argument wrong Tree.NoArguments)) → ⊥)
+    × (StmtStands kinds (Tree.Release wrong) → ⊥) × (StmtStands kinds (Tree.Return (Some wrong)) → ⊥) × (StmtStands kinds (Tree.While wrong Tree.Empty) → ⊥)
+inside_statements = (λ h. let e = h.0 in absurd (cc), λ h. wrong_refused h.1, λ h. wrong_refused h.2, wrong_refused, wrong_refused, λ h. wrong_refused h.0, wrong_refused, wrong_refused, λ h. wrong_refused h.0)
+
+abbrev wrong_statement : Tree.Stmt
+wrong_statement = Tree.Assign x wrong
+
+inside_others : (StmtStands kinds (Tree.Then wrong_statement Tree.Empty) → ⊥) × (StmtStands kinds (Tree.Then Tree.Empty wrong_statement) → ⊥) × (StmtStands kinds (Tree.Block wrong_statement) → ⊥)
+    × (StmtStands kinds (Tree.If wrong Tree.Empty Tree.Nothing) → ⊥) × (StmtStands kinds (Tree.If one wrong_statement Tree.Nothing) → ⊥) × (StmtStands kinds (Tree.If one Tree.Empty wrong_statement) → ⊥)
+    × (StmtStands kinds (Tree.While one wrong_statement) → ⊥) × (StmtStands kinds (Tree.For wrong_statement None Tree.Nothing Tree.Empty) → ⊥) × (StmtStands kinds (Tree.For Tree.Nothing (Some wrong) Tree.Nothing Tree.Empty) → ⊥)
+    × (StmtStands kinds (Tree.For Tree.Nothing None wrong_statement Tree.Empty) → ⊥) × (StmtStands kinds (Tree.For Tree.Nothing None Tree.Nothing wrong_statement) → ⊥)
+inside_others = (λ h. wrong_refused h.0, λ h. wrong_refused h.1, wrong_refused, λ h. wrong_refused h.0, λ h. wrong_refused h.1, λ h. wrong_refused h.2, λ h. wrong_refused h.1,
+    λ h. wrong_refused h.0, λ h. wrong_refused h.1, λ h. wrong_refused h.2, λ h. wrong_refused h.3)
+
+second_function : FunctionsStand kinds (record { private = false; parameters = []; body = Tree.Empty } ∷ record { private = false; parameters = []; body = wrong_statement } ∷ []) → ⊥
+second_function h = wrong_refused h.1.0
+
+-- ---- nodes of a source
+
+-- -(a[1] + f(2, 3)), in parentheses: the sign -, the sum, the element, its index, the call and its two arguments
+abbrev seven : Expr
+seven = expr.Unary sign.Minus (expr.Paren (expr.Binary sign.Plus (expr.Index (codes "a") (expr.Number 1 false 3) 2)
+    (expr.Call (codes "f") (expr.Number 2 false 8 ∷ expr.Number 3 false 10 ∷ []) 6) 5) 1) 0
+
+seven_nodes : expr_count seven ≡ 7
+seven_nodes = simp counts refl
+
+one_each : map expr_count (expr.Number 1 false 0 ∷ expr.Name (codes "a") 0 ∷ expr.Input 0 ∷ expr.Paren (expr.Input 1) 0 ∷ []) ≡ 1 ∷ 1 ∷ 1 ∷ 1 ∷ []
+one_each = simp counts refl
+
+abbrev simple : List Stmt
+simple = stmt.Empty 0 ∷ stmt.Check 0 ∷ stmt.Break 0 ∷ stmt.Continue 0 ∷ stmt.Local false (codes "i") None 0 ∷ stmt.Local false (codes "i") (Some seven) 0
+    ∷ stmt.Assign (codes "i") None seven 0 ∷ stmt.Assign (codes "a") (Some (expr.Input 0)) seven 0 ∷ stmt.Call (codes "f") (seven ∷ expr.Input 0 ∷ []) 0
+    ∷ stmt.Release seven 0 ∷ stmt.Return None 0 ∷ stmt.Return (Some seven) 0 ∷ []
+
+simple_nodes : map stmt_count simple ≡ 1 ∷ 1 ∷ 1 ∷ 1 ∷ 1 ∷ 8 ∷ 8 ∷ 9 ∷ 9 ∷ 8 ∷ 1 ∷ 8 ∷ []
+simple_nodes = simp counts refl
+
+abbrev two : Stmt
+two = stmt.Release (expr.Input 0) 0
+
+abbrev nested : List Stmt
+nested = stmt.Block (two ∷ two ∷ []) 0 ∷ stmt.If seven two None 0 ∷ stmt.If seven two (Some two) 0 ∷ stmt.While seven two 0
+    ∷ stmt.For None None None two 0 ∷ stmt.For (Some two) (Some seven) (Some two) two 0 ∷ []
+
+nested_nodes : map stmt_count nested ≡ 5 ∷ 10 ∷ 12 ∷ 10 ∷ 3 ∷ 14 ∷ []
+nested_nodes = simp counts refl
+
+-- a function with its parameter; an object, a constant and untrusted code have none
+item_nodes : items_count (item.Object Shared false (codes "a") (Some 2) 1 ∷ item.Constant false (codes "c") None [] false 3
+    ∷ item.Untrusted (codes "g") 5 ∷ item.Function false Int (codes "f") (record { unsigned = false; name = codes "n"; token = 9 } ∷ []) (two ∷ []) 7
+    ∷ item.Function true Void (codes "h") [] [] 20 ∷ []) ≡ 5
+item_nodes = simp counts refl

@@ -1,3 +1,4 @@
 pub mod Mentions
 pub mod FunctionNumbers
-pub mod WellShaped
+pub mod SourceNodes
+pub mod TestTokens

@@ -1,8 +1,10 @@
 //! Laws of checked programs with their names resolved.
 ghost use Rattle.c_meaning.specs.FunctionNumbers.{FunctionsListed, MainIsFound, NumbersCount, NumbersLead, ObjectsListed};
 ghost use Rattle.c_meaning.specs.Mentions.{NamesAgree};
-ghost use Rattle.c_meaning.specs.WellShaped.{AreWellShaped, FitLengths};
+ghost use Rattle.c_meaning.specs.SourceNodes.{NodesAgree};
+ghost use Rattle.c_meaning.specs.TestTokens.{TestsStand};
 ghost use Rattle.c_resolver.specs.Resolving.{plain_program};
+ghost use Rattle.c_semantics.specs.ProgramShape.{IsShaped};
 
 use c_types::Checked;
 
@@ -31,11 +33,19 @@ pub fn resolved_as_listed(p: &Checked)
     ensures objects { ObjectsListed p.now }
 {}
 
-/// The shape of a resolved program: an array has 1 to 65,536 elements; a function has at most 6 parameters, each `break` and
-/// `continue` of it stands inside a loop, and no loop stands in the first part or the step of a `for`.
+/// The shape of a resolved program. No token declares two variables. Each occurrence of a variable agrees with its declaration in class
+/// and length: a local or a parameter is one of its own function, a private object is named in private functions alone, and no
+/// constant is assigned to. A call goes to a function before its own, with as many arguments as that one has parameters, at most 6.
+/// At most 64 statements, loops among them, and levels of an expression stand inside one another; each `break` and `continue`
+/// stands inside a loop, and no loop stands in the first part or the step of a `for`. An array has 1 to 65,536 elements, and an
+/// object starts with no more words than it has. A run starts with a function that takes nothing and is not private.
+///
+/// Tests of indices stand at the tokens of their signs `[`, and operators at those of theirs. The resolved program has as many nodes as
+/// the source.
 pub fn resolved_is_well_shaped(p: &Checked)
-    ensures lengths { FitLengths (plain_program p.now).objects }
-    ensures functions { AreWellShaped (plain_program p.now).functions }
+    ensures shape { IsShaped (plain_program p.now) }
+    ensures tests { TestsStand p.now }
+    ensures nodes { NodesAgree p.now }
 {
     p.program();
 }

@@ -1,8 +1,9 @@
-use Rattle.c_meaning.proofs.Shaped.{functions_shaped, objects_fit}
+use Rattle.c_meaning.proofs.Shaped.{nodes_agree, program_shaped, tests_stand}
 use Rattle.c_meaning.proofs.laws.resolved_is_well_shaped.Goals as goal
 
 pub returns : goal.returns
 returns c = record {
-  lengths = objects_fit c.args.p.now c.program.ensures.typed.rules;
-  functions = functions_shaped c.args.p.now c.program.ensures.read c.program.ensures.typed.rules;
+  shape = program_shaped c.args.p.now c.program.ensures.read c.program.ensures.typed;
+  tests = tests_stand c.args.p.now c.program.ensures.read c.program.ensures.typed.rules;
+  nodes = nodes_agree c.args.p.now c.program.ensures.read c.program.ensures.typed.rules;
 }
