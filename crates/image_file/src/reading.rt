@@ -168,7 +168,8 @@ fn blocks_of(bytes: &[u8], count: u32) -> Result<&[u8], ImageError>
     requires { count ≤ MAX_DATA_BLOCKS }
     ensures blocks { IfOk result (λ blocks. blocks.now ≡ drop HEADER_BYTES bytes.now) }
     ensures length { IfOk result (λ _. length bytes.now ≡ HEADER_BYTES + BLOCK_BYTES * count) }
-    ensures fault { fault_told result ≡ blocks_fault bytes.now (HEADER_BYTES + BLOCK_BYTES * count) }
+    ensures fault { fault_told result
+        ≡ blocks_fault bytes.now (HEADER_BYTES + BLOCK_BYTES * count) }
 {
     let whole = HEADER_BYTES + (BLOCK_BYTES * count) as usize;
     if bytes.len() < whole {
