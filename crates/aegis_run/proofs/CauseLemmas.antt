@@ -272,8 +272,8 @@ refuses files command before now end why refusal is cause =
     (λ (failure : IsFailure end). inr failure)
     (λ (sound : IsFailure end → ⊥).
     let same : why.texts ≡ cause.texts = one_place (step_after command) (Serves command) files why.texts cause.texts why.passed cause.passed
-        (blocked files command (step_after command why.texts) before now end sound why.cause)
-        (blocked files command (step_after command cause.texts) before before refusal (refusal_sound refusal is) cause.cause) in
+    (blocked files command (step_after command why.texts) before now end sound why.cause)
+    (blocked files command (step_after command cause.texts) before before refusal (refusal_sound refusal is) cause.cause) in
     let P : List (List ℕ) → Type 0 = λ texts. CauseAt (Some files) command (step_after command texts) before now end in
     one_at files command (step_after command cause.texts) before now before before end refusal is (subst P same why.cause) cause.cause)
     (sound_or_not end)
@@ -286,8 +286,8 @@ own_or_failed files command before now end texts why passed last =
     (λ (failure : IsFailure end). inr failure)
     (λ (sound : IsFailure end → ⊥).
     let same : why.texts ≡ texts = one_place (step_after command) (Serves command) files why.texts texts why.passed passed
-        (blocked files command (step_after command why.texts) before now end sound why.cause)
-        (λ text passes. let P : Option FileStep → Type 0 = λ step. Passes (Serves command) (Some files) step text in subst P last passes) in
+    (blocked files command (step_after command why.texts) before now end sound why.cause)
+    (λ text passes. let P : Option FileStep → Type 0 = λ step. Passes (Serves command) (Some files) step text in subst P last passes) in
     let R : Option FileStep → Type 0 = λ step. CauseAt (Some files) command step before now end in
     let there : IsOwn command end ⊎ (end ≡ OutOfMemory) = subst R (ap (step_after command) same ∙ last) why.cause in
     ⊎_elim
@@ -300,7 +300,7 @@ own_or_failed files command before now end texts why passed last =
 one_meaning : (files : Files) (names : MeanNames) (m n : Meaning) → MeanMeans (Some files) names m → MeanMeans (Some files) names n → m ≡ n
 one_meaning files names m n one two =
     let texts : (one.input ∷ one.source ∷ []) ≡ (two.input ∷ two.source ∷ []) =
-        passed_alike (step_in (mean_steps names)) ServesMean files (one.input ∷ one.source ∷ []) (two.input ∷ two.source ∷ []) refl one.passed two.passed in
+    passed_alike (step_in (mean_steps names)) ServesMean files (one.input ∷ one.source ∷ []) (two.input ∷ two.source ∷ []) refl one.passed two.passed in
     let input : one.input ≡ two.input = cc in
     let source : one.source ≡ two.source = cc in
     let P : List ℕ → Type 0 = λ text. IsSource text one.program in

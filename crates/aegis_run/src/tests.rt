@@ -19,10 +19,7 @@ const RUN: &str = "run hi none none 33554432 000102030405060708090a0b0c0d0e0f 00
 /// What out and notes take of a run of a source that releases two bytes, where these calls of out fail.
 fn sinks_of_run(alloc: Global, failing: &[(u64, u64)]) -> Result<(MemSink, MemSink), Fail> {
     let mut folder = MemFolder::new(alloc, &[])?;
-    folder.add(
-        "hi",
-        b"int main(void){release(72);release(105);return 0;}",
-    )?;
+    folder.add("hi", b"int main(void){release(72);release(105);return 0;}")?;
     folder.add("none", b"")?;
     let mut out = MemSink::with_room(alloc, 16, failing)?;
     let mut notes = MemSink::with_room(alloc, 80, &[])?;

@@ -19,7 +19,7 @@ returns-clause-refused g c =
 pub returns-clause-complete : goal.returns-clause-complete
 returns-clause-complete g c =
     let P : TopEnd → Type 0 = λ end. IfMean (command_in c.args.words.now) (λ names.
-        MeanCommand (g.F.Folder.files c.args.folder.now) names end (g.K.Sink.written c.args.out.now) (g.K.Sink.written c.answer_words-outcome.new.out)) in
+    MeanCommand (g.F.Folder.files c.args.folder.now) names end (g.K.Sink.written c.args.out.now) (g.K.Sink.written c.answer_words-outcome.new.out)) in
     complete_where (g.F.Folder.files c.args.folder.now) (command_in c.args.words.now) _ _ _ _ c.noted.result.end (g.K.Sink.written c.args.out.now) (g.K.Sink.written c.answer_words-outcome.new.out)
     (subst (Cause _ _ _ _ _ _) (sym c.noted.ensures.end) c.answer_words-outcome.ensures.cause)
     (subst P (sym c.noted.ensures.end) c.answer_words-outcome.ensures.mean)
