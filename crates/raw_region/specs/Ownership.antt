@@ -17,8 +17,8 @@ abbrev pub room_at : Ptr → ℕ → Fml
 room_at p n = room_for (block_type n) p
 
 -- the bytes xs lie at p
-abbrev pub bytes_at : Ptr → List ℕ → Fml
-bytes_at p xs = lies_at (Array u8 (length xs)) full_share p xs
+abbrev pub bytes_owned : Ptr → List ℕ → Fml
+bytes_owned p xs = lies_at (Array u8 (length xs)) full_share p xs
 
 -- they may be read until the lifetime ends
 abbrev pub bytes_lent : Ptr → List ℕ → Lft → Fml

@@ -1,7 +1,7 @@
 //! The block of a region, and the right to give it back. Only this file has raw pointers.
 ghost use Rattle.std.specs.Prelude.{◌≡◌, ℕ, ◌+◌, ◌<◌, ◌≤◌, ◌++◌, List, length, take, drop, replicate, IfOk, slice_index, slice_set};
 ghost use denote.RawPtr.{Ptr};
-ghost use Rattle.raw_region.specs.Ownership.{block_type, room_at, bytes_at, bytes_lent};
+ghost use Rattle.raw_region.specs.Ownership.{block_type, room_at, bytes_owned, bytes_lent};
 
 use std::alloc::{AllocError, Allocator};
 use std::marker::{Model, PhantomData};
@@ -23,7 +23,7 @@ pub(crate) struct Memory {
 }
 
 impl Model for Memory {
-    ghost also_owns = { λ m. bytes_at m.ptr m.bytes };
+    ghost also_owns = { λ m. bytes_owned m.ptr m.bytes };
 
     ghost also_shares = { λ m _ κ. bytes_lent m.ptr m.bytes κ };
 }

@@ -33,7 +33,7 @@ use denote.Steps.{nothing, opens, closes, peeks, heard}
 use denote.Triple.Walked.{Stays, walk_of, says, stay_ref, stay_dropped, Goes-ref, Goes-dropped, ends_at}
 use Rattle.std.proofs.raw_atomic.Walks.{proved}
 use Rattle.std.proofs.VecSteps.Shapes.{after}
-use Rattle.raw_region.specs.Ownership.{bytes_at}
+use Rattle.raw_region.specs.Ownership.{bytes_owned}
 use Rattle.raw_region.specs.contracts.memory.Memory.{the_row as R}
 use Rattle.raw_region.specs.contracts.memory.Memory.copy_in as f
 use Rattle.raw_region.proofs.Arrays.{array_of, array_ty, Fits, typed, array_out, array_in}
@@ -71,7 +71,7 @@ copy_in_spec 𝓤 𝓛 𝓜 𝓡 wired n small =
     use1 𝓛 (‵ (part_at (Array u8 n) s ys sb so)) (array_in 𝓛 n ys s sb so fits) $ move ! (1 ∷ 0 ∷ []) $ shr_Shut ! tt $
     move ! (1 ∷ 2 ∷ []) $ fsplit3 ! $ move ! (1 ∷ 2 ∷ 3 ∷ []) $ opens ! tt R b o (λ us.
     move ! (1 ∷ []) $ peeks ! R _ (shows 𝓛 R) h us (λ is. fsplit ! $ move ! (1 ∷ []) $
-    in_a_block ! h.ptr (λ p. bytes_at p xs) (id⊢ 𝓤 (never 𝓤)) (λ b' o' e. let run = take n (drop_l at xs) in
+    in_a_block ! h.ptr (λ p. bytes_owned p xs) (id⊢ 𝓤 (never 𝓤)) (λ b' o' e. let run = take n (drop_l at xs) in
     use1 𝓛 (‵ (bytes full_share run b' (at + o')) ⊛ ‵ (around full_share xs b' o' at n)) (run_out full_share xs b' o' at n 𝓛 within) $ split ! $
     use1 𝓛 (‵ (froom (array_ty (length run)) b' (at + o'))) (bytes-room 𝓛 run b' (at + o')) $
     rewrite ! 0 (λ (k : ℕ). ‵ (froom (array_ty k) b' (at + o'))) (run_long full_share xs b' o' at n 𝓛 within) refl $
@@ -87,7 +87,7 @@ copy_in_spec 𝓤 𝓛 𝓜 𝓡 wired n small =
     use1 𝓛 (‵ (part_at (Array u8 n) full_share ys b' (at + o'))) (array_in 𝓛 n ys full_share b' (at + o') fits) $
     use1 𝓛 (‵ (fsep (feq ℕ (length ys) n) (bytes full_share ys b' (at + o')))) (bytes_apart 𝓛 full_share n ys b' (at + o')) $ fsplit ! $ feq_l ! (λ long.
     use2 𝓛 (‵ (all_of full_share b' o' zs)) (run_in full_share xs b' o' at n 𝓛 within ys long) $
-    rewrite ! 0 (λ (p : Ptr). ‵ (bytes_at p zs)) (sym e) refl $ rewrite ! 2 Cell (sym word) refl $
+    rewrite ! 0 (λ (p : Ptr). ‵ (bytes_owned p zs)) (sym e) refl $ rewrite ! 2 Cell (sym word) refl $
     move ! (1 ∷ []) $ fjoin ! $ move ! (1 ∷ []) $ closes ! tt R new us b o $
     -- [two parts of self; its token; self's first part; the other tokens]
     returns ! (look_at ! 0 refl) $ free_all ! refl $ move ! (3 ∷ []) $

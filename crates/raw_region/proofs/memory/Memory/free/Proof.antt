@@ -36,7 +36,7 @@ use denote.Triple.Walked.{Stays, walk_of, stay_dropped, Goes-dropped, ends_at}
 use Rattle.std.proofs.alloc.Calls.{Al, Goes-blank, Gives, at_gives, Gives-goes, Gives-Gives}
 use Rattle.std.proofs.alloc.Shapes.{after}
 use Rattle.std.proofs.raw_atomic.Walks.{proved}
-use Rattle.raw_region.specs.Ownership.{block_type, bytes_at}
+use Rattle.raw_region.specs.Ownership.{block_type, bytes_owned}
 use Rattle.raw_region.specs.contracts.memory.Memory as memory
 use Rattle.raw_region.specs.contracts.memory.Lease as lease
 use Rattle.raw_region.specs.contracts.memory.Memory.free as f
@@ -61,7 +61,7 @@ free_spec 𝓤 𝓛 𝓜 𝓡 wired A L g d dd met md =
     let Asked : Type 0 = (n ≡ length xs) × (k.ptr ≡ m.ptr) × (k.len ≡ n) × (k.alloc ≡ h) in
     qed 𝓛 (((‵ (flft κ q) ⊛ ‵ (flft κs.1.0 qs.1.0) ⊛ ‵ ftrue) ⊛ ‵ (owns (types_at En.signature.params κs) a y.0.4)) ∷ (raw (fact 𝓤 (κs.1.0 ⊑ A.lives)) ⊛ raw (fact 𝓤 Asked)) ∷ []) ∵
     move ! (1 ∷ []) $ split ! $ heard ! (κs.1.0 ⊑ A.lives) (λ le. heard ! Asked (λ asked. split ! $ split ! $ move ! (2 ∷ []) $ fsplit3 ! $ fsplit ! $ drop ! $
-    in_a_block ! m.ptr (λ p. bytes_at p xs) (id⊢ 𝓤 (never 𝓤)) (λ b o e.
+    in_a_block ! m.ptr (λ p. bytes_owned p xs) (id⊢ 𝓤 (never 𝓤)) (λ b o e.
     use1 𝓛 (‵ (fsep (feq ℕ (length xs) (length xs)) (bytes full_share xs b o))) (bytes_apart 𝓛 full_share (length xs) xs b o) $ fsplit ! $ drop ! $
     use1 𝓛 (‵ (froom (block_type (length xs)) b o)) (bytes-room 𝓛 xs b o) $ rewrite ! 0 (λ (i : ℕ). ‵ (froom (block_type i) b o)) (sym asked.0) refl $
     move ! (2 ∷ []) $ fsplit ! $ fsplit ! $ move ! (2 ∷ []) $ fsplit ! $ fsplit ! $ keep ! (5 ∷ 4 ∷ 1 ∷ 7 ∷ 8 ∷ []) $

@@ -26,7 +26,7 @@ use denote.Signature.{plain, types_at}
 use denote.Steps.{nothing, opens, closes, peeks, heard}
 use denote.Triple.Walked.{Stays, walk_of, says, stay_ref, stay_dropped, Goes-ref, Goes-dropped, ends_at}
 use Rattle.std.proofs.raw_atomic.Walks.{proved}
-use Rattle.raw_region.specs.Ownership.{bytes_at}
+use Rattle.raw_region.specs.Ownership.{bytes_owned}
 use Rattle.raw_region.specs.contracts.memory.Memory.{the_row as R}
 use Rattle.raw_region.specs.contracts.memory.Memory.put as f
 use Rattle.raw_region.proofs.Bytes.{all_of, around, byte_out, byte_in}
@@ -52,7 +52,7 @@ put_spec 𝓤 𝓛 𝓜 𝓡 wired =
     enter ! _ _ _ _ _ $ alloc_all ! (λ l. pass_all ! refl ((tt, tt), ((tt, record { fits = are.1.0.1 }), ((tt, record { fits = are.1.1.0.1 }), tt))) $
     fsplit3 ! $ move ! (1 ∷ 2 ∷ 3 ∷ []) $ opens ! tt R b o (λ us.
     move ! (1 ∷ []) $ peeks ! R _ (shows 𝓛 R) h us (λ is. fsplit ! $ move ! (1 ∷ []) $
-    in_a_block ! h.ptr (λ p. bytes_at p xs) (id⊢ 𝓤 (never 𝓤)) (λ b' o' e.
+    in_a_block ! h.ptr (λ p. bytes_owned p xs) (id⊢ 𝓤 (never 𝓤)) (λ b' o' e.
     use1 𝓛 (‵ (fat full_share (ty_int w8) b' (at + o') (vint w8 (get_or xs at 0))) ⊛ ‵ (around full_share xs b' o' at 1)) (byte_out full_share xs b' o' at 𝓛 within) $ split ! $
     let word = lowers.val_is h us is ∙ ap (λ (p : Ptr). lowers.lowered (record h { ptr = p }) ∷ []) e in
     let Cell = λ (ws : List Val). ‵ (cell_at full_share R.mir ws b o) in
@@ -65,7 +65,7 @@ put_spec 𝓤 𝓛 𝓜 𝓡 wired =
     exec ! 𝓣.C 𝓣.Λ (env code.Mir.locals l) code.Mir.t-2 (at_ret _ (W.post y)) $
     sets ! (of_opd ! (unit_lit !)) refl (tt, tt) $
     use2 𝓛 (‵ (all_of full_share b' o' (set xs at x))) (byte_in full_share xs b' o' at 𝓛 within x) $
-    rewrite ! 0 (λ (p : Ptr). ‵ (bytes_at p (set xs at x))) (sym e) refl $ rewrite ! 2 Cell (sym word) refl $
+    rewrite ! 0 (λ (p : Ptr). ‵ (bytes_owned p (set xs at x))) (sym e) refl $ rewrite ! 2 Cell (sym word) refl $
     move ! (1 ∷ []) $ fjoin ! $ move ! (1 ∷ []) $ closes ! tt R new us b o $
     -- [two parts of self; the token; self's first part]
     returns ! (look_at ! 0 refl) $ free_all ! refl $ move ! (3 ∷ []) $
