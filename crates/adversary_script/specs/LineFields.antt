@@ -36,5 +36,5 @@ numeral_value field =
     if starts_with nat_eq field (codes "0x") then number_in_base 16 is_ascii_hexdigit (drop 2 field) else number_in_base 10 is_ascii_digit field
 
 -- the bytes that a field writes as pairs of hexadecimal digits: no field is empty, so there are one or more
-abbrev pub hex_bytes : List ℕ → Option (List ℕ)
-hex_bytes field = result_ok (decode_of field)
+abbrev pub decoded_bytes : List ℕ → Option (List ℕ)
+decoded_bytes field = result_ok (decode_of field)

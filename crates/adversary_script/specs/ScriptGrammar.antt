@@ -20,7 +20,7 @@ use Rattle.adversary_script.specs.declared.fault.Fault.TheVariants.{Line, Number
 use Rattle.adversary_script.specs.declared.form.Kind.{Kind}
 use Rattle.adversary_script.specs.declared.form.Kind.TheVariants.{Data, Node, Text, Log}
 use Rattle.adversary_script.specs.ScriptRules.{is_in_range, may_precede, bytes_written, all_bytes_written}
-use Rattle.adversary_script.specs.LineFields.{is_line_byte, fields_of, numeral_value, hex_bytes}
+use Rattle.adversary_script.specs.LineFields.{is_line_byte, fields_of, numeral_value, decoded_bytes}
 use Rattle.adversary_script.specs.LineForms.{BlockForm, ChangeForm, open_form, code_form, bytes_form, save_form, back_form, copy_form, MomentForm, start_form, at_form, suspend_form, LineForm, line_form}
 
 infixl 10 ◌>>=◌
@@ -29,12 +29,12 @@ abbrev pub ◌>>=◌ : {A B : Type 0} → Result A Fault → (A → Result B Fau
 (Err fault) >>= f = Err fault
 
 -- a number field
-abbrev pub number : List ℕ → Result ℕ Fault
-number field = ok_or (numeral_value field) Number
+abbrev pub field_number : List ℕ → Result ℕ Fault
+field_number field = ok_or (numeral_value field) Number
 
 -- a HEX field
 abbrev pub hex : List ℕ → Result (List ℕ) Fault
-hex field = ok_or (hex_bytes field) Hex
+hex field = ok_or (decoded_bytes field) Hex
 
 -- the block of a kind with a number
 abbrev pub target_of : Kind → ℕ → Target
@@ -46,19 +46,19 @@ target_of Log n = target.Log n
 -- a block
 unfoldable pub block : BlockForm → Result Target Fault
 block form = do
-  n ← number form.number
+  n ← field_number form.number
   Ok (target_of form.kind n)
 
 -- a moment
 unfoldable pub moment : MomentForm → Result When Fault
 moment start_form = Ok when.Start
-moment (at_form n) = number n >>= λ n. Ok (when.At n)
-moment (suspend_form k) = number k >>= λ k. Ok (when.Suspend k)
+moment (at_form n) = field_number n >>= λ n. Ok (when.At n)
+moment (suspend_form k) = field_number k >>= λ k. Ok (when.Suspend k)
 
 -- what a change does: each number stands before the bytes
 unfoldable pub deed : ChangeForm → Result What Fault
 deed (open_form at bytes) = do
-  at ← number at
+  at ← field_number at
   bytes ← hex bytes
   Ok (what.Open at bytes)
 deed (code_form bytes) = do
@@ -66,15 +66,15 @@ deed (code_form bytes) = do
   Ok (what.Open UNTRUSTED_START bytes)
 deed (bytes_form form at bytes) = do
   target ← block form
-  at ← number at
+  at ← field_number at
   bytes ← hex bytes
   Ok (what.Bytes target at bytes)
 deed (save_form slot form) = do
-  slot ← number slot
+  slot ← field_number slot
   target ← block form
   Ok (what.Save slot target)
 deed (back_form slot form) = do
-  slot ← number slot
+  slot ← field_number slot
   target ← block form
   Ok (what.Back slot target)
 deed (copy_form from to) = do

@@ -4,7 +4,7 @@ ghost use Rattle.std.specs.Str.Parse.{IsNumeral, digits_value};
 ghost use Rattle.std.specs.List.{list_all};
 ghost use Rattle.std.specs.Char.{is_ascii_digit, is_ascii_hexdigit};
 ghost use Rattle.adversary_script.specs.LineFields.{is_line_byte, is_separator, fields_of, is_numeral, below_limit, number_in_base, numeral_value};
-ghost use Rattle.adversary_script.specs.ScriptGrammar.{number, hex as hex_bytes};
+ghost use Rattle.adversary_script.specs.ScriptGrammar.{field_number, hex as decoded_field};
 ghost use Rattle.adversary_script.specs.FormMeanings.{texts, Gives};
 
 use crate::bytes::Bytes;
@@ -104,14 +104,14 @@ fn numeral_value(field: &[u8]) -> Option<u32>
 
 /// The number that a field has to write.
 pub fn number(field: &[u8]) -> Result<u32, Fault>
-    ensures { result ≡ number field.now }
+    ensures { result ≡ field_number field.now }
 {
     numeral_value(field).ok_or(Fault::Number)
 }
 
 /// The bytes that a field has to write, as pairs of hexadecimal digits.
 pub fn bytes(alloc: Global, field: &[u8]) -> Result<Bytes, Fault>
-    ensures { Gives result (hex_bytes field.now) }
+    ensures { Gives result (decoded_field field.now) }
 {
     match hex::decode(alloc, field) {
         Ok(bytes) => Ok(Bytes::new(bytes)),
