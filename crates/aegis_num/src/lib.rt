@@ -14,3 +14,6 @@ pub use name::Name;
 pub use operators::{BinaryOp, UnaryOp};
 pub use stamps::Stamps;
 pub use storage::{Block, Key, Keys, Place};
+
+#[cfg(test)]
+mod tests;
