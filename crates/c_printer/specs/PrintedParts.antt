@@ -21,12 +21,21 @@ spaced_tokens kinds = flat_map spaced_token kinds
 abbrev pub between : List Kind → List Kind
 between inner = kinds.Sign signs.LeftParenthesis ∷ (inner ++ kinds.Sign signs.RightParenthesis ∷ [])
 
+-- parentheses with nothing between them
+abbrev pub no_arguments : List Kind
+no_arguments = kinds.Sign signs.LeftParenthesis ∷ kinds.Sign signs.RightParenthesis ∷ []
+
 -- the head of a `for`, up to its first sign `;` and after it, with the tokens of its parts
 abbrev pub head_begin_kinds : List Kind → List Kind
 head_begin_kinds first = kinds.Word words.For ∷ kinds.Sign signs.LeftParenthesis ∷ (first ++ kinds.Sign signs.Semicolon ∷ [])
 
 abbrev pub head_end_kinds : Option Expr → List Kind → List Kind
 head_end_kinds test step = maybe_kinds test ++ (kinds.Sign signs.Semicolon ∷ (step ++ kinds.Sign signs.RightParenthesis ∷ []))
+
+-- a function of the untrusted code
+abbrev pub untrusted_kinds : List ℕ → List Kind
+untrusted_kinds name =
+    kinds.Word words.Untrusted ∷ kinds.Word words.Void ∷ kinds.Name name ∷ kinds.Sign signs.LeftParenthesis ∷ kinds.Word words.Void ∷ kinds.Sign signs.RightParenthesis ∷ kinds.Sign signs.Semicolon ∷ []
 
 -- the sign `,` before each part of a list but the first
 abbrev pub commas_before : ℕ → List Kind
