@@ -1,5 +1,5 @@
 -- The nodes of each form of expression and statement, one equation each, and what a use that fits comes to.
-use Rattle.std.proofs.Common.{◌≡◌, ◌≢◌, ◌∙◌, ap, sym, ℕ, ◌+◌, ◌||◌, Bool, true, false, List, [], ◌∷◌, length, map, Option, Some, None, arith, refl}
+use Rattle.std.proofs.Common.{◌≡◌, ◌∙◌, ap, sym, ℕ, ◌+◌, Bool, List, [], ◌∷◌, map, Option, Some, None, refl}
 use Rattle.aegis_num.specs.Operators.{wrapped}
 use Rattle.c_token.specs.declared.signs.Sign.{Sign}
 use Rattle.c_grammar.specs.declared.expr.Expr.{Expr}
@@ -14,7 +14,7 @@ use Rattle.c_scopes.specs.declared.declaration.Binding.{Binding}
 use Rattle.c_scopes.specs.declared.declaration.Entity.{Entity}
 use Rattle.c_scopes.specs.declared.declaration.Entity.TheVariants as entity
 use Rattle.c_types.specs.declared.site.Home.{Home}
-use Rattle.c_types.specs.declared.site.How.TheVariants.{Value, Element, Assign, AssignElement, Call, CallValue}
+use Rattle.c_types.specs.declared.site.How.TheVariants.{Element, Assign, AssignElement, CallValue}
 use Rattle.c_types.specs.declared.site.Rule.TheVariants as rule
 use Rattle.c_types.specs.TypingRules.Breaks.{unknown, misused}
 use Rattle.c_semantics.specs.declared.tree.Variable.{Variable}

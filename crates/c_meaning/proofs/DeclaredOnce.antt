@@ -1,5 +1,5 @@
 -- No two variables of a program are declared by one token: each item declares those of its own tokens.
-use Rattle.std.proofs.Common.{◌≡◌, ◌≢◌, ◌∙◌, ◌⊎◌, inl, inr, ap, sym, subst, ℕ, suc, ◌+◌, ◌==◌, ◌<◌, ◌≤◌, ◌||◌, ◌&&◌, not, Bool, true, false, cond, List, [], ◌∷◌, ◌++◌, length, map, arith, refl}
+use Rattle.std.proofs.Common.{◌≡◌, ◌≢◌, ◌⊎◌, inl, inr, ap, ℕ, suc, ◌+◌, ◌==◌, ◌<◌, ◌≤◌, ◌||◌, ◌&&◌, not, Bool, true, false, cond, List, [], ◌∷◌, ◌++◌, length, map, arith, refl}
 use Rattle.std.proofs.lemmas.Bool.Decides.{nat_tests}
 use Rattle.c_token.specs.declared.kinds.Kind.{Kind}
 use Rattle.c_grammar.specs.declared.item.Parameter.{Parameter}
@@ -11,8 +11,7 @@ use Rattle.c_grammar.specs.ProgramGrammar.{IsItem, AreItems, IsParameter, AreLis
 use Rattle.c_scopes.specs.declared.declaration.Declaration.{Declaration}
 use Rattle.c_scopes.specs.Declarations.{declaration_of, parameters_of, token_of}
 use Rattle.c_types.specs.Checked.{IsReadProgram}
-use Rattle.c_semantics.specs.ResolvedTree as Tree
-use Rattle.c_semantics.specs.ProgramShape.{are_distinct, declared_tokens, is_among, locals_of, own_tokens, own_tokens_of_all}
+use Rattle.c_semantics.specs.ProgramShape.{are_distinct, declared_tokens, is_among, locals_of, own_tokens_of_all}
 use Rattle.c_resolver.specs.Resolving.{function_tokens, functions_in, objects_in, plain_program}
 use Rattle.c_resolver.specs.ResolvingViews.{body_in, parameters_in}
 use Rattle.c_meaning.proofs.Numbers.{From, has-within, item-has}

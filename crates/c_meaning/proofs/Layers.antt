@@ -1,5 +1,5 @@
 -- Each form of expression and statement with its names resolved, and what a name and a sign can come to.
-use Rattle.std.proofs.Common.{◌≡◌, ◌∙◌, ap, sym, subst, ℕ, suc, ◌+◌, Bool, true, false, List, [], ◌∷◌, map, Option, Some, None, arith, refl}
+use Rattle.std.proofs.Common.{◌≡◌, ◌∙◌, ap, sym, subst, ℕ, suc, ◌+◌, Bool, true, false, List, map, Option, Some, None, arith}
 use Rattle.aegis_num.specs.declared.operators.BinaryOp.{BinaryOp}
 use Rattle.aegis_num.specs.declared.operators.UnaryOp.{UnaryOp}
 use Rattle.aegis_num.specs.Operators.{wrapped}

@@ -1,6 +1,6 @@
 -- Where no rule is broken, each name in an expression of the grammar agrees once it is resolved with its declaration, and the nodes are
 -- as many.
-use Rattle.std.proofs.Common.{◌≡◌, ◌∙◌, ap, sym, subst, ℕ, suc, ◌+◌, ◌-◌, Bool, true, List, [], ◌∷◌, ◌++◌, length, map, arith, refl}
+use Rattle.std.proofs.Common.{◌≡◌, ap, sym, subst, ℕ, suc, ◌+◌, ◌-◌, Bool, true, List, [], ◌∷◌, length, arith, refl}
 use Rattle.c_token.specs.declared.signs.Sign.{Sign}
 use Rattle.c_grammar.specs.declared.expr.Expr.{Expr}
 use Rattle.c_grammar.specs.declared.expr.Expr.TheVariants as expr

@@ -18,7 +18,7 @@ use Rattle.c_types.specs.declared.site.Rule.TheVariants as rule
 use Rattle.c_types.specs.declared.site.Site.{Site}
 use Rattle.c_types.specs.TypingRules.Breaks.{unknown, misused, miscounted}
 use Rattle.c_types.specs.Sites.{Place, StmtSites, expr_sites, inner_scope, looped, part_sites, place_after, stmt_sites}
-use Rattle.c_types.specs.Walks.{body_sites, branch_sites, list_sites}
+use Rattle.c_types.specs.Walks.{body_sites, branch_sites}
 use Rattle.c_types.proofs.Equations.{stmt_sites-Empty, stmt_sites-Local, stmt_sites-Assign, stmt_sites-Call, stmt_sites-Release, stmt_sites-Check, stmt_sites-Return, stmt_sites-Break, stmt_sites-Continue, stmt_sites-If, stmt_sites-While, stmt_sites-For, stmt_sites-Block, stmt_declared-Block}
 use Rattle.c_semantics.specs.ResolvedTree as Tree
 use Rattle.c_semantics.specs.Nodes.{argument_nodes, part_nodes, stmt_nodes}
@@ -28,7 +28,7 @@ use Rattle.c_resolver.specs.ResolvingViews.{body_in, branch_declared, branch_in,
 use Rattle.c_resolver.proofs.Rows.{resolved-Block, declared-Block, resolved-If, resolved-For}
 use Rattle.c_meaning.specs.SourceNodes.{body_count, expr_count, list_count, part_count, stmt_count}
 use Rattle.c_meaning.proofs.Counts.{branch_count, count-Empty, count-Local, count-Assign, count-call, count-Release, count-Check, count-Return, count-Break, count-Continue, count-Block, count-If, count-While, count-For, whole-fits, element-fits}
-use Rattle.c_meaning.proofs.Layers.{resolved-Empty, resolved-Local, resolved-Assign, resolved-Call, resolved-Release, resolved-Check, resolved-Return, resolved-Break, resolved-Continue, resolved-While, whole-form, element-form, call-form}
+use Rattle.c_meaning.proofs.Layers.{resolved-Empty, resolved-Local, resolved-Assign, resolved-Call, resolved-Release, resolved-Check, resolved-Return, resolved-Break, resolved-Continue, resolved-While}
 use Rattle.c_meaning.proofs.Uses.{Fits, called_by}
 use Rattle.c_meaning.proofs.MentionedExpressions.{Clean, clean-front, clean-back}
 use Rattle.c_meaning.proofs.NamedExpressions.{AllKept, KeptExpr, arguments_kept, count-list, expression_kept}
@@ -246,7 +246,7 @@ block-named fs body token inner = record {
   kept = λ around place all same within clean.
       let known = place.scope.known in
       let part = inner around (inner_scope place) all same (subst (λ s. Within (locals_of s) around.own) (resolved-Block fs body token known) within)
-          (subst Clean (stmt_sites-Block body token place) clean) in
+      (subst Clean (stmt_sites-Block body token place) clean) in
       subst (λ s. StmtKept around s (stmt_count (stmt.Block body token))) (sym (resolved-Block fs body token known))
       (record { names = part.names; count = ap (λ n. 1 + n) part.count ∙ sym (count-Block body token) });
 }
@@ -356,7 +356,7 @@ one-named fs s ss first later around place all same within clean =
     let clean' : Clean ((stmt_sites s).sites place ++ body_sites ss after) = subst (λ ds. Clean ((stmt_sites s).sites place ++ body_sites ss (place_after ds place))) (sym first.declares) clean in
     let one = first.kept around place all same within1 (clean-front ((stmt_sites s).sites place) (body_sites ss after) clean') in
     let two = later around after (known-append fs around place.home known new all (first.knows around place.home known within1)) same
-        (within-back own1 own2 around.own within) (clean-back ((stmt_sites s).sites place) (body_sites ss after) clean') in
+    (within-back own1 own2 around.own within) (clean-back ((stmt_sites s).sites place) (body_sites ss after) clean') in
     record { names = (one.names, two.names); count = omega (arith, one.count, two.count) }
 
 mutual

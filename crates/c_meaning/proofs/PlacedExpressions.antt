@@ -1,5 +1,5 @@
 -- An expression of the grammar keeps once it is resolved its levels and the tokens of its signs.
-use Rattle.std.proofs.Common.{◌≡◌, ap, sym, subst, ℕ, suc, ◌+◌, ◌<◌, ◌||◌, Bool, true, false, cond, List, [], ◌∷◌, ◌++◌, length, map, Some, arith, refl}
+use Rattle.std.proofs.Common.{◌≡◌, sym, subst, ℕ, suc, ◌+◌, ◌<◌, ◌||◌, Bool, true, false, cond, List, length, Some, arith}
 use Rattle.std.specs.List.{slice_get}
 use Rattle.aegis_num.specs.declared.operators.BinaryOp.{BinaryOp}
 use Rattle.aegis_num.specs.declared.operators.BinaryOp.TheVariants as op
@@ -9,7 +9,6 @@ use Rattle.c_token.specs.declared.signs.Sign.{Sign}
 use Rattle.c_token.specs.declared.signs.Sign.TheVariants as sign
 use Rattle.c_grammar.specs.declared.expr.Expr.{Expr}
 use Rattle.c_grammar.specs.declared.expr.Expr.TheVariants as expr
-use Rattle.c_grammar.specs.declared.expr.Expr.TheOpen.{Expr-F}
 use Rattle.c_grammar.specs.Precedence.{precedence as rank, is_unary_operator}
 use Rattle.c_grammar.specs.BoundedTokens.{Bounded}
 use Rattle.c_grammar.specs.TokenPrograms.{limit}

@@ -4,7 +4,6 @@ use Rattle.std.specs.List.{slice_get, list_any}
 use Rattle.std.specs.Str.{bytes_eq}
 use Rattle.std.proofs.lemmas.Bool.Decides.{nat_tests}
 use Rattle.aegis_num.specs.declared.limits.TheConstants.{MAX_ARRAY_LENGTH, MAX_SOURCE_BYTES}
-use Rattle.regions.specs.declared.rights.Class.TheVariants as class
 use Rattle.c_token.specs.declared.kinds.Kind.{Kind}
 use Rattle.c_grammar.specs.declared.stmt.Stmt.{Stmt}
 use Rattle.c_grammar.specs.declared.item.Kind3.{Kind3}
@@ -29,12 +28,11 @@ use Rattle.c_types.specs.Walks.{body_sites}
 use Rattle.c_types.specs.Sites.{in_function, item_sites, length_sites, parameter_sites, place_after}
 use Rattle.c_types.specs.TypingRules.{Breaks}
 use Rattle.c_types.specs.TypingRules.Breaks.{list_for_scalar, no_elements, too_long, values_too_many}
-use Rattle.c_types.specs.Checked.{IsReadProgram, IsTyped, KeepsRules, has_main, is_int, is_main}
+use Rattle.c_types.specs.Checked.{IsReadProgram, IsTyped, KeepsRules, is_int, is_main}
 use Rattle.c_types.proofs.Answered.{few}
-use Rattle.c_semantics.specs.declared.tree.Variable.{Variable}
 use Rattle.c_semantics.specs.ResolvedTree as Tree
 use Rattle.c_semantics.specs.Nodes.{function_nodes, functions_nodes}
-use Rattle.c_semantics.specs.ProgramShape.{AreFunctionsShaped, AreObjectsShaped, AreUnclassed, Around, FitsLength, HasMain, IsFunctionShaped, IsKept, IsObjectShaped, IsShaped, around_of, is_among, locals_of, object_at, own_tokens, word_count}
+use Rattle.c_semantics.specs.ProgramShape.{AreFunctionsShaped, AreObjectsShaped, AreUnclassed, Around, FitsLength, HasMain, IsFunctionShaped, IsKept, IsShaped, around_of, locals_of, object_at, word_count}
 use Rattle.c_resolver.specs.Resolving.{constant_word, function_in, function_tokens, functions_in, objects_in, plain_program}
 use Rattle.c_resolver.specs.ResolvingViews.{body_in, parameters_in}
 use Rattle.c_meaning.specs.Mentions.{items_sites}
@@ -49,7 +47,7 @@ use Rattle.c_meaning.proofs.MentionedPrograms.{declarations-snoc, functions-cons
 use Rattle.c_meaning.proofs.NamedStatements.{StmtKept, Within, among-back, among-front, among-here, body_named}
 use Rattle.c_meaning.proofs.Numbers.{Ascends, ascends-above, body-led, from-numbered, items-ascend, number-counted, numbers_lead}
 use Rattle.c_meaning.proofs.Places.{Row, row-back, row-front, row_of_all}
-use Rattle.c_meaning.proofs.PlacedStatements.{StmtPlaced, body_placed}
+use Rattle.c_meaning.proofs.PlacedStatements.{body_placed}
 use Rattle.c_meaning.proofs.UsesAgree.{AllKnown, known-append}
 
 item-clean : (p : Program) → KeepsRules p → (before rest : List Item) (x : Item) → p.items ≡ before ++ x ∷ rest → Clean (item_sites before x)

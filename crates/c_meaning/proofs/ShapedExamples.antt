@@ -1,5 +1,5 @@
 -- Each word on what is listed, on the tokens of tests and on nodes, where it holds and where it does not.
-use Rattle.std.proofs.Common.{◌≡◌, ℕ, Bool, true, false, List, [], ◌∷◌, map, codes, Option, Some, None, refl}
+use Rattle.std.proofs.Common.{◌≡◌, ℕ, true, false, List, [], ◌∷◌, map, codes, Some, None, refl}
 use Rattle.aegis_num.specs.declared.operators.BinaryOp.TheVariants as op
 use Rattle.regions.specs.declared.rights.Class.TheVariants.{Private}
 use Rattle.c_token.specs.declared.kinds.Kind.{Kind}
@@ -18,7 +18,7 @@ use Rattle.c_semantics.specs.ResolvedTree as Tree
 use Rattle.c_meaning.specs.FunctionNumbers.{listed_kept, listed_shape, resolved_kept, resolved_shape, trusted}
 use Rattle.c_meaning.specs.SourceNodes.{expr_count, items_count, stmt_count}
 use Rattle.c_meaning.proofs.Counts.{counts}
-use Rattle.c_meaning.specs.TestTokens.{ArgumentsStand, ExprStands, FunctionsStand, StmtStands}
+use Rattle.c_meaning.specs.TestTokens.{ExprStands, FunctionsStand, StmtStands}
 
 abbrev x : Variable
 x = record { token = 5; class = None }
@@ -98,8 +98,19 @@ inside_others : (StmtStands kinds (Tree.Then wrong_statement Tree.Empty) → ⊥
     × (StmtStands kinds (Tree.If wrong Tree.Empty Tree.Nothing) → ⊥) × (StmtStands kinds (Tree.If one wrong_statement Tree.Nothing) → ⊥) × (StmtStands kinds (Tree.If one Tree.Empty wrong_statement) → ⊥)
     × (StmtStands kinds (Tree.While one wrong_statement) → ⊥) × (StmtStands kinds (Tree.For wrong_statement None Tree.Nothing Tree.Empty) → ⊥) × (StmtStands kinds (Tree.For Tree.Nothing (Some wrong) Tree.Nothing Tree.Empty) → ⊥)
     × (StmtStands kinds (Tree.For Tree.Nothing None wrong_statement Tree.Empty) → ⊥) × (StmtStands kinds (Tree.For Tree.Nothing None Tree.Nothing wrong_statement) → ⊥)
-inside_others = (λ h. wrong_refused h.0, λ h. wrong_refused h.1, wrong_refused, λ h. wrong_refused h.0, λ h. wrong_refused h.1, λ h. wrong_refused h.2, λ h. wrong_refused h.1,
-    λ h. wrong_refused h.0, λ h. wrong_refused h.1, λ h. wrong_refused h.2, λ h. wrong_refused h.3)
+inside_others = (
+  λ h. wrong_refused h.0,
+  λ h. wrong_refused h.1,
+  wrong_refused,
+  λ h. wrong_refused h.0,
+  λ h. wrong_refused h.1,
+  λ h. wrong_refused h.2,
+  λ h. wrong_refused h.1,
+  λ h. wrong_refused h.0,
+  λ h. wrong_refused h.1,
+  λ h. wrong_refused h.2,
+  λ h. wrong_refused h.3,
+)
 
 second_function : FunctionsStand kinds (record { private = false; parameters = []; body = Tree.Empty } ∷ record { private = false; parameters = []; body = wrong_statement } ∷ []) → ⊥
 second_function h = wrong_refused h.1.0

@@ -12,9 +12,7 @@ use Rattle.c_scopes.specs.Scopes.{latest, first_some}
 use Rattle.c_types.specs.declared.site.Home.{Home}
 use Rattle.c_types.specs.declared.site.How.{How}
 use Rattle.c_types.specs.declared.site.How.TheVariants.{Value, Element, Assign, AssignElement, Call, CallValue}
-use Rattle.c_types.specs.declared.site.Rule.{Rule}
 use Rattle.c_types.specs.declared.site.Rule.TheVariants as rule
-use Rattle.c_types.specs.declared.site.Site.TheVariants as site
 use Rattle.c_types.specs.TypingRules.{is_assignment}
 use Rattle.c_types.specs.TypingRules.Breaks.{self_call, constant_assigned, private_outside, misused, miscounted}
 use Rattle.c_semantics.specs.ResolvedTree as Tree

@@ -22,6 +22,8 @@ pub data Mention : Type 0 where
   Array : (array : Variable) (length : ℕ) → Mention
   -- a function is called, by its number among the functions of the source, from 0
   Called : (function : ℕ) → Mention
+  -- untrusted code is called
+  Suspended : Mention
 
 -- ---- in the resolved tree
 
@@ -55,7 +57,7 @@ in_stmt (Tree.Local variable value) = Declared variable.token ∷ in_part value
 in_stmt (Tree.Assign variable value) = Scalar variable ∷ in_expr value
 in_stmt (Tree.Store at array length index value) = Array array length ∷ (in_expr index ++ in_expr value)
 in_stmt (Tree.Call function arguments) = Called function ∷ in_arguments arguments
-in_stmt Tree.Suspend = []
+in_stmt Tree.Suspend = Suspended ∷ []
 in_stmt (Tree.Release value) = in_expr value
 in_stmt Tree.Check = []
 in_stmt (Tree.Return value) = in_part value
@@ -79,12 +81,12 @@ mentions p = in_functions p.functions
 
 -- ---- by the rules of scope
 
--- what the use of a name is bound to, where its declaration stands at this token; untrusted code has no number
+-- what the use of a name is bound to, where its declaration stands at this token; untrusted code has no number, and a call of it suspends
 abbrev pub bound_to : List ℕ → ℕ → Entity → List Mention
 bound_to functions token (entity.Local unsigned) = Scalar (variable_of token None) ∷ []
 bound_to functions token (entity.Object class unsigned None) = Scalar (variable_of token (Some class)) ∷ []
 bound_to functions token (entity.Object class unsigned (Some length)) = Array (variable_of token (Some class)) length ∷ []
-bound_to functions token (entity.Function result true parameters) = []
+bound_to functions token (entity.Function result true parameters) = Suspended ∷ []
 bound_to functions token (entity.Function result false parameters) = Called (function_number functions token) ∷ []
 
 abbrev pub bound : List ℕ → Option Binding → List Mention
@@ -118,6 +120,6 @@ program_sites p = items_sites [] p.items
 -- ---- both are one
 
 -- A program mentions, once its names are resolved, what the rules of scope bind its uses to: the same declarations,
--- variables with their classes, arrays with their lengths, and calls.
+-- variables with their classes, arrays with their lengths, calls, and suspensions.
 abbrev pub NamesAgree : Program → Type 0
 NamesAgree p = mentions (plain_program p) ≡ at_sites (function_tokens p.items) (program_sites p)

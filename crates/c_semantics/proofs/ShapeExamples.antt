@@ -1,13 +1,13 @@
 -- Each word on the shape of resolved programs and on their nodes, where it holds and where it does not.
-use Rattle.std.proofs.Common.{◌≡◌, ap, ℕ, ◌≤◌, ◌<◌, Bool, true, false, List, [], ◌∷◌, length, map, Option, Some, None, arith, refl}
+use Rattle.std.proofs.Common.{◌≡◌, ap, ℕ, true, false, List, [], ◌∷◌, length, map, Option, Some, None, arith, refl}
 use Rattle.aegis_num.specs.declared.operators.BinaryOp.TheVariants as op
 use Rattle.aegis_num.specs.declared.operators.UnaryOp.TheVariants as unary
 use Rattle.regions.specs.declared.rights.Class.{Class}
 use Rattle.regions.specs.declared.rights.Class.TheVariants as class
 use Rattle.c_semantics.specs.declared.tree.Variable.{Variable}
-use Rattle.c_semantics.specs.ResolvedTree.{Expr, Number, Scalar, Indexed, Called, Input, Unary, Binary, Both, Either, Arguments, NoArguments, Argument, Stmt, Nothing, Then, Empty, Block, Local, Assign, Store, Call, Suspend, Release, Check, Return, Break, Continue, If, While, For, Function, Object, Program}
+use Rattle.c_semantics.specs.ResolvedTree.{Expr, Number, Scalar, Indexed, Called, Input, Unary, Binary, Both, Either, NoArguments, Argument, Stmt, Nothing, Then, Empty, Block, Local, Assign, Store, Call, Suspend, Release, Check, Return, Break, Continue, If, While, For, Function, Object, Program}
 use Rattle.c_semantics.specs.Nodes.{expr_nodes, stmt_nodes, nodes}
-use Rattle.c_semantics.specs.ProgramShape.{Agrees, AreFunctionsShaped, AreObjectsShaped, AreUnclassed, Around, ArgumentsAgree, ExprAgrees, ExprNests, FitsLength, HasMain, HasSimpleHeads, IsAllowed, IsAssignable, IsCallable, IsFunctionShaped, IsKept, IsObject, IsObjectShaped, JumpsInLoops, Nests, Occurs, are_distinct, argument_count, around_of, declared_tokens, is_among, is_simple, locals_of, object_at, own_tokens, word_count}
+use Rattle.c_semantics.specs.ProgramShape.{Agrees, AreFunctionsShaped, AreObjectsShaped, AreUnclassed, Around, ExprAgrees, ExprNests, FitsLength, HasMain, HasSimpleHeads, IsCallable, IsFunctionShaped, IsKept, IsObjectShaped, JumpsInLoops, Nests, Occurs, are_distinct, argument_count, around_of, declared_tokens, is_among, is_simple, locals_of, object_at, word_count}
 
 abbrev one : Expr
 one = Number 1
@@ -202,8 +202,18 @@ inside_expressions : (ExprAgrees in_private (Indexed 3 (global 1 class.Private) 
     × (ExprAgrees in_public (Called 0 (Argument one (Argument wrong NoArguments))) → ⊥) × (ExprAgrees in_public (Unary unary.Neg wrong) → ⊥)
     × (ExprAgrees in_public (Binary 3 op.Add wrong one) → ⊥) × (ExprAgrees in_public (Binary 3 op.Add one wrong) → ⊥)
     × (ExprAgrees in_public (Both wrong one) → ⊥) × (ExprAgrees in_public (Both one wrong) → ⊥) × (ExprAgrees in_public (Either wrong one) → ⊥) × (ExprAgrees in_public (Either one wrong) → ⊥)
-inside_expressions = (λ h. let e = h.1 in absurd (cc), λ h. wrong_refused h.1.0, λ h. wrong_refused h.1.1.0, wrong_refused, λ h. wrong_refused h.0, λ h. wrong_refused h.1,
-    λ h. wrong_refused h.0, λ h. wrong_refused h.1, λ h. wrong_refused h.0, λ h. wrong_refused h.1)
+inside_expressions = (
+  λ h. let e = h.1 in absurd (cc),
+  λ h. wrong_refused h.1.0,
+  λ h. wrong_refused h.1.1.0,
+  wrong_refused,
+  λ h. wrong_refused h.0,
+  λ h. wrong_refused h.1,
+  λ h. wrong_refused h.0,
+  λ h. wrong_refused h.1,
+  λ h. wrong_refused h.0,
+  λ h. wrong_refused h.1,
+)
 
 indexed_array_refused : ExprAgrees in_public (Indexed 3 (global 1 class.Private) 3 one) → ⊥
 indexed_array_refused h = private_refused h.0
@@ -214,8 +224,18 @@ later_call_refused h = itself_refused h.0
 inside_simple : (Agrees in_public (Local (local 17) None) → ⊥) × (Agrees in_private (Local (local 17) (Some (Scalar (local 99)))) → ⊥) × (Agrees in_private (Local (global 17 class.Open) None) → ⊥)
     × (Agrees in_public (Assign (local 17) one) → ⊥) × (Agrees in_public (Assign (global 9 class.Open) wrong) → ⊥) × (Agrees in_public (Assign (global 4 class.Constant) one) → ⊥)
     × (Agrees in_public (Call 1 NoArguments) → ⊥) × (Agrees in_public (Call 0 (Argument wrong NoArguments)) → ⊥) × (Agrees in_public (Release wrong) → ⊥) × (Agrees in_public (Return (Some wrong)) → ⊥)
-inside_simple = (λ h. let e = h.1 in absurd (cc), λ h. let e = h.2 in absurd (cc), λ h. let e = h.0 in absurd (cc), λ h. let e = h.1 in absurd (cc), λ h. wrong_refused h.2, λ h. h.0,
-    λ h. itself_refused h.0, λ h. wrong_refused h.1.0, wrong_refused, wrong_refused)
+inside_simple = (
+  λ h. let e = h.1 in absurd (cc),
+  λ h. let e = h.2 in absurd (cc),
+  λ h. let e = h.0 in absurd (cc),
+  λ h. let e = h.1 in absurd (cc),
+  λ h. wrong_refused h.2,
+  λ h. h.0,
+  λ h. itself_refused h.0,
+  λ h. wrong_refused h.1.0,
+  wrong_refused,
+  wrong_refused,
+)
 
 inside_stores : (Agrees in_public (Store 3 (global 1 class.Private) 3 one one) → ⊥) × (Agrees in_private (Store 3 (global 1 class.Private) 3 (Scalar (local 99)) one) → ⊥)
     × (Agrees in_private (Store 3 (global 1 class.Private) 3 one (Scalar (local 99))) → ⊥) × (Agrees in_private (Store 3 (global 4 class.Constant) 3 one one) → ⊥)
@@ -229,8 +249,20 @@ inside_others : (Agrees in_public (Then wrong_statement Empty) → ⊥) × (Agre
     × (Agrees in_public (While wrong Empty) → ⊥) × (Agrees in_public (While one wrong_statement) → ⊥)
     × (Agrees in_public (For wrong_statement None Nothing Empty) → ⊥) × (Agrees in_public (For Nothing (Some wrong) Nothing Empty) → ⊥)
     × (Agrees in_public (For Nothing None wrong_statement Empty) → ⊥) × (Agrees in_public (For Nothing None Nothing wrong_statement) → ⊥)
-inside_others = (λ h. wrong_refused h.0, λ h. wrong_refused h.1, wrong_refused, λ h. wrong_refused h.0, λ h. wrong_refused h.1, λ h. wrong_refused h.2, λ h. wrong_refused h.0, λ h. wrong_refused h.1,
-    λ h. wrong_refused h.0, λ h. wrong_refused h.1, λ h. wrong_refused h.2, λ h. wrong_refused h.3)
+inside_others = (
+  λ h. wrong_refused h.0,
+  λ h. wrong_refused h.1,
+  wrong_refused,
+  λ h. wrong_refused h.0,
+  λ h. wrong_refused h.1,
+  λ h. wrong_refused h.2,
+  λ h. wrong_refused h.0,
+  λ h. wrong_refused h.1,
+  λ h. wrong_refused h.0,
+  λ h. wrong_refused h.1,
+  λ h. wrong_refused h.2,
+  λ h. wrong_refused h.3,
+)
 
 -- ---- nesting
 
@@ -242,17 +274,40 @@ deep_expressions : (ExprNests 64 (Unary unary.Neg one) → ⊥) × (ExprNests 64
     × (ExprNests 63 (Indexed 3 (local 1) 2 (Called 0 NoArguments)) → ⊥) × (ExprNests 63 (Called 0 (Argument one (Argument (Called 0 NoArguments) NoArguments))) → ⊥)
     × (ExprNests 64 (Binary 3 op.Add (Unary unary.Neg one) one) → ⊥) × (ExprNests 64 (Binary 3 op.Add one (Unary unary.Neg one)) → ⊥)
     × (ExprNests 64 (Both (Unary unary.Neg one) one) → ⊥) × (ExprNests 64 (Both one (Unary unary.Neg one)) → ⊥) × (ExprNests 64 (Either (Unary unary.Neg one) one) → ⊥) × (ExprNests 64 (Either one (Unary unary.Neg one)) → ⊥)
-deep_expressions = (λ h. absurd (omega (arith, h.0)), λ h. absurd (omega (arith, h.0)), λ h. absurd (omega (arith, h.0)), λ h. absurd (omega (arith, h.1.0)),
-    λ h. absurd (omega (arith, h.1.0)), λ h. absurd (omega (arith, h.1.1.0.0)), λ h. absurd (omega (arith, h.0.0)), λ h. absurd (omega (arith, h.1.0)),
-    λ h. absurd (omega (arith, h.0.0)), λ h. absurd (omega (arith, h.1.0)), λ h. absurd (omega (arith, h.0.0)), λ h. absurd (omega (arith, h.1.0)))
+deep_expressions = (
+  λ h. absurd (omega (arith, h.0)),
+  λ h. absurd (omega (arith, h.0)),
+  λ h. absurd (omega (arith, h.0)),
+  λ h. absurd (omega (arith, h.1.0)),
+  λ h. absurd (omega (arith, h.1.0)),
+  λ h. absurd (omega (arith, h.1.1.0.0)),
+  λ h. absurd (omega (arith, h.0.0)),
+  λ h. absurd (omega (arith, h.1.0)),
+  λ h. absurd (omega (arith, h.0.0)),
+  λ h. absurd (omega (arith, h.1.0)),
+  λ h. absurd (omega (arith, h.0.0)),
+  λ h. absurd (omega (arith, h.1.0)),
+)
 
 abbrev deep : Expr
 deep = Unary unary.Neg one
 
 deep_simple : (Nests 64 Empty → ⊥) × (Nests 64 Check → ⊥) × (Nests 64 Suspend → ⊥) × (Nests 64 Break → ⊥) × (Nests 64 Continue → ⊥) × (Nests 64 (Return None) → ⊥) × (Nests 63 (Return (Some deep)) → ⊥)
     × (Nests 64 (Local (local 1) None) → ⊥) × (Nests 63 (Local (local 1) (Some deep)) → ⊥) × (Nests 64 (Assign (local 1) one) → ⊥) × (Nests 63 (Assign (local 1) deep) → ⊥) × (Nests 63 (Release deep) → ⊥)
-deep_simple = (λ h. absurd (omega (arith, h)), λ h. absurd (omega (arith, h)), λ h. absurd (omega (arith, h)), λ h. absurd (omega (arith, h)), λ h. absurd (omega (arith, h)), λ h. absurd (omega (arith, h.0)),
-    λ h. absurd (omega (arith, h.1.0)), λ h. absurd (omega (arith, h.0)), λ h. absurd (omega (arith, h.1.0)), λ h. absurd (omega (arith, h.0)), λ h. absurd (omega (arith, h.1.0)), λ h. absurd (omega (arith, h.1.0)))
+deep_simple = (
+  λ h. absurd (omega (arith, h)),
+  λ h. absurd (omega (arith, h)),
+  λ h. absurd (omega (arith, h)),
+  λ h. absurd (omega (arith, h)),
+  λ h. absurd (omega (arith, h)),
+  λ h. absurd (omega (arith, h.0)),
+  λ h. absurd (omega (arith, h.1.0)),
+  λ h. absurd (omega (arith, h.0)),
+  λ h. absurd (omega (arith, h.1.0)),
+  λ h. absurd (omega (arith, h.0)),
+  λ h. absurd (omega (arith, h.1.0)),
+  λ h. absurd (omega (arith, h.1.0)),
+)
 
 deep_stores : (Nests 63 (Store 3 (local 1) 2 one one) → ⊥) × (Nests 62 (Store 3 (local 1) 2 deep one) → ⊥) × (Nests 63 (Call 0 NoArguments) → ⊥) × (Nests 62 (Call 0 (Argument deep NoArguments)) → ⊥)
 deep_stores = (λ h. absurd (omega (arith, h.0)), λ h. absurd (omega (arith, h.1.0)), λ h. absurd (omega (arith, h.0)), λ h. absurd (omega (arith, h.1.0.0)))
@@ -260,8 +315,21 @@ deep_stores = (λ h. absurd (omega (arith, h.0)), λ h. absurd (omega (arith, h.
 deep_others : (Nests 63 (Block Empty) → ⊥) × (Nests 64 (Then Empty Nothing) → ⊥) × (Nests 64 (Then Nothing Empty) → ⊥) × (Nests 63 (If deep Nothing Nothing) → ⊥) × (Nests 63 (If one Empty Nothing) → ⊥) × (Nests 63 (If one Nothing Empty) → ⊥)
     × (Nests 63 (While one Empty) → ⊥) × (Nests 63 (While deep Nothing) → ⊥) × (Nests 64 (For Nothing None Nothing Nothing) → ⊥) × (Nests 63 (For Empty None Nothing Nothing) → ⊥) × (Nests 63 (For Nothing (Some deep) Nothing Nothing) → ⊥)
     × (Nests 63 (For Nothing None Empty Nothing) → ⊥) × (Nests 63 (For Nothing None Nothing Empty) → ⊥)
-deep_others = (λ h. absurd (omega (arith, h.1)), λ h. absurd (omega (arith, h.0)), λ h. absurd (omega (arith, h.1)), λ h. absurd (omega (arith, h.1.0)), λ h. absurd (omega (arith, h.2)), λ h. absurd (omega (arith, h.3)),
-    λ h. absurd (omega (arith, h.2)), λ h. absurd (omega (arith, h.1.0)), λ h. absurd (omega (arith, h.0)), λ h. absurd (omega (arith, h.1)), λ h. absurd (omega (arith, h.2.0)), λ h. absurd (omega (arith, h.3)), λ h. absurd (omega (arith, h.4)))
+deep_others = (
+  λ h. absurd (omega (arith, h.1)),
+  λ h. absurd (omega (arith, h.0)),
+  λ h. absurd (omega (arith, h.1)),
+  λ h. absurd (omega (arith, h.1.0)),
+  λ h. absurd (omega (arith, h.2)),
+  λ h. absurd (omega (arith, h.3)),
+  λ h. absurd (omega (arith, h.2)),
+  λ h. absurd (omega (arith, h.1.0)),
+  λ h. absurd (omega (arith, h.0)),
+  λ h. absurd (omega (arith, h.1)),
+  λ h. absurd (omega (arith, h.2.0)),
+  λ h. absurd (omega (arith, h.3)),
+  λ h. absurd (omega (arith, h.4)),
+)
 
 -- ---- objects and functions
 

@@ -4,7 +4,7 @@ use Rattle.aegis_num.specs.declared.limits.TheConstants.{MAX_ARRAY_LENGTH, MAX_N
 use Rattle.regions.specs.declared.rights.Class.{Class}
 use Rattle.regions.specs.declared.rights.Class.TheVariants.{Private, Constant, Code}
 use Rattle.c_semantics.specs.declared.tree.Variable.{Variable}
-use Rattle.c_semantics.specs.ResolvedTree.{Expr, Number, Scalar, Indexed, Called, Input, Unary, Binary, Both, Either, Arguments, NoArguments, Argument, Stmt, Nothing, Then, Empty, Block, Local, Assign, Store, Call, Suspend, Release, Check, Return, Break, Continue, If, While, For, Function, Object, Program}
+use Rattle.c_semantics.specs.ResolvedTree.{Expr, Scalar, Indexed, Called, Unary, Binary, Both, Either, Arguments, NoArguments, Argument, Stmt, Nothing, Then, Empty, Block, Local, Assign, Store, Call, Suspend, Release, Check, Return, Break, Continue, If, While, For, Function, Object, Program}
 
 -- ---- what is declared
 
