@@ -16,6 +16,8 @@ use Rattle.c_types.specs.declared.checked.Function.{Function}
 use Rattle.c_semantics.specs.declared.tree.Variable.{Variable}
 use Rattle.c_semantics.specs.ResolvedTree as Tree
 use Rattle.c_meaning.specs.FunctionNumbers.{listed_kept, listed_shape, resolved_kept, resolved_shape, trusted}
+use Rattle.c_scopes.specs.declared.declaration.Entity.TheVariants as entity
+use Rattle.c_meaning.specs.Mentions.{Suspended, bound_to, in_stmt}
 use Rattle.c_meaning.specs.SourceNodes.{expr_count, items_count, stmt_count}
 use Rattle.c_meaning.proofs.Counts.{counts}
 use Rattle.c_meaning.specs.TestTokens.{ExprStands, FunctionsStand, StmtStands}
@@ -43,6 +45,14 @@ shape_of_f = refl
 kept : resolved_kept (record { variable = record { token = 1; class = Some Private }; length = Some 3; first = [] })
     ≡ listed_kept (record { name = codes "a"; class = Private; unsigned = true; length = Some 3 })
 kept = refl
+
+-- ---- calls of untrusted code
+
+suspensions : in_stmt (Tree.Then Tree.Suspend (Tree.Block Tree.Suspend)) ≡ Suspended ∷ Suspended ∷ []
+suspensions = refl
+
+bound_untrusted : bound_to (4 ∷ []) 9 (entity.Function Void true 0) ≡ Suspended ∷ []
+bound_untrusted = refl
 
 -- ---- tokens of tests
 

@@ -9,8 +9,8 @@ ghost use Rattle.c_semantics.specs.ProgramShape.{IsShaped};
 use c_types::Checked;
 
 /// The names of a program are resolved as the rules of scope bind them (ISO/IEC 9899, section 6.2.1): the resolved program
-/// mentions, in the order of the source, the declaration, class and length that each use is bound to at its site, calls of untrusted code, and the
-/// locals and parameters that are declared.
+/// mentions, in the order of the source, the declaration, class and length that each use is bound to at its site, calls of
+/// untrusted code, and the locals and parameters that are declared.
 pub fn names_are_those_of_the_scopes(p: &Checked)
     ensures names { NamesAgree p.now }
 {

@@ -386,6 +386,26 @@ shaped_functions = (
   ),
 )
 
+-- the third one calls the first and the second, by their numbers
+abbrev last : Function
+last = record { private = false; parameters = []; body = Then (Call 0 (Argument one NoArguments)) (Then (Call 1 NoArguments) Nothing) }
+
+numbered : AreFunctionsShaped objects (twice ∷ []) (main ∷ last ∷ [])
+numbered = (
+  shaped_functions.1.0,
+  (
+    record {
+      parameters = omega arith;
+      unclassed = tt;
+      names = ((record { callee = twice; stands = refl; count = refl }, (tt, tt)), ((record { callee = main; stands = refl; count = refl }, tt), tt));
+      nesting = ((omega arith, (tt, tt)), ((omega arith, tt), tt));
+      heads = (tt, (tt, tt));
+      jumps = (tt, (tt, tt));
+    },
+    tt,
+  ),
+)
+
 -- the first function may not call the second
 order_refused : AreFunctionsShaped objects [] (main ∷ twice ∷ []) → ⊥
 order_refused h = let e = h.0.names.0.2.0.stands in absurd (cc)
