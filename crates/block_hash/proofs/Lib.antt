@@ -1,0 +1,2 @@
+pub mod StringLemmas
+mod Examples

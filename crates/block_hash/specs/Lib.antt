@@ -1,0 +1,3 @@
+pub mod BlockStrings
+pub mod ProgramParts
+pub mod StringLaws
