@@ -1,0 +1,9 @@
+pub mod Offline
+pub mod LineLemmas
+pub mod SumLemmas
+pub mod TraceLemmas
+pub mod LogLemmas
+pub mod LoadLemmas
+pub mod CheckLemmas
+pub mod PassLemmas
+pub mod StartLemmas

@@ -1,0 +1,9 @@
+pub mod LogTurns
+pub mod LogStands
+pub mod OfflineCheck
+pub mod LogState
+pub mod LineParts
+pub mod StandsOn
+pub mod Checking
+pub mod LogCalls
+pub mod Starting

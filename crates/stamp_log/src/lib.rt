@@ -1,0 +1,14 @@
+//! The time-stamped log over blocks off the chip, and offline checks of it.
+#![tactic(auto)]
+
+mod causes;
+mod laws;
+mod lines;
+mod log;
+mod sums;
+mod trace;
+
+pub use causes::{Changed, LogCause};
+pub use laws::offline_checks_suffice;
+pub use log::StampLog;
+pub use sums::MultisetSum;
