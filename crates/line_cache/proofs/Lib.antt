@@ -1,0 +1,5 @@
+pub mod MapLemmas
+pub mod SlotLemmas
+pub mod CacheLemmas
+pub mod VictimLemmas
+mod Worked
