@@ -1,0 +1,146 @@
+-- What follows where a line is taken out, after it was written back or with a mark.
+use Rattle.std.proofs.Common.{◌≡◌, ℕ, ◌+◌, ◌<◌, false, List, Option, Some, None, refl, sym, ap, ◌∙◌, subst, inl, inr, arith, rules}
+use Rattle.std.specs.Prelude.{◌^◌, is_some, option_map}
+use Rattle.std.specs.FinMap.{get, contains_key, remove, insert, len, gets}
+use Rattle.std.proofs.lemmas.Bool.{cases_eq}
+use Rattle.aegis_num.specs.declared.storage.Place.TheVariants.{Tree}
+use Rattle.regions.specs.declared.layout.Layout.{Layout}
+use Rattle.regions.specs.Tree.{parent_in}
+use Rattle.off_chip.specs.declared.event.Event.{Event}
+use Rattle.off_chip.specs.declared.event.Event.TheVariants.{BlockWrite, Note}
+use Rattle.off_chip.specs.declared.event.Mark.TheVariants.{Drop}
+use Rattle.off_chip.specs.Histories.{history}
+use Rattle.line_cache.specs.declared.lines.Line.{Line}
+use Rattle.line_cache.specs.LineMaps.{LineMap, Holds, dirty_at, with_clean, clean_line, with_payload}
+use Rattle.line_cache.proofs.MapLemmas.{get-remove_other, len-held}
+use Rattle.hash_tree.specs.HashTrees.{state_of}
+use Rattle.hash_tree.specs.Schemes.{Scheme, IsLawful}
+use Rattle.hash_tree.specs.Standing.{State, Stands}
+use Rattle.hash_tree.specs.TreeSteps.{Appends, Puts, WritesBack, write, dropped, Evicted, KeepsDigest}
+use Rattle.hash_tree.proofs.GrowthLemmas.{write-resident}
+use Rattle.hash_tree.proofs.RemoveLemmas.{Removed, leaves-dropped, leaves-written, stands-removed}
+use Rattle.off_chip.specs.WriteBacks.{StampsFit}
+use Rattle.hash_tree.proofs.SchemeLemmas.{line-held}
+use Rattle.hash_tree.proofs.WriteBackLemmas.{fits-written, stands-written, written-holds, written-leaves, keeps-both}
+use Rattle.hash_tree.proofs.CallLemmas.{held-line, line-holds}
+
+get-removed : (lines : LineMap) (n : ℕ) → get (remove lines n) n ≡ None
+get-removed lines n = grind (gets, rules)
+
+pub len-removed : (lines : LineMap) (n : ℕ) → Holds lines n → len (remove lines n) + 1 ≡ len lines
+len-removed lines n held = let some : 0 < len lines = len-held lines n held in grind (gets, rules)
+
+pub len-payload : (lines : LineMap) (n : ℕ) (payload : List ℕ) → Holds lines n → len (with_payload lines n payload) ≡ len lines
+len-payload lines n payload held = grind (gets, rules)
+
+len-insert_held : (lines : LineMap) (n : ℕ) (line : Line) → Holds lines n → len (insert lines n line) ≡ len lines
+len-insert_held lines n line held = grind (gets, rules)
+
+pub len-clean : (lines : LineMap) (n : ℕ) → Holds lines n → len (with_clean lines n) ≡ len lines
+len-clean lines n held =
+    let line = held-line lines n held in
+    ap (λ (o : Option Line). len (clean_line lines n o)) line.1 ∙ len-insert_held lines n (record { payload = line.0.payload; dirty = false }) held
+
+-- what a line that was taken out leaves
+puts-removed : (old new : LineMap) (n : ℕ) → new ≡ remove old n → Puts (λ m. get old m) (λ m. get new m) n None
+puts-removed old new n same = record {
+  here = ap (λ (l : LineMap). get l n) same ∙ get-removed old n;
+  other = λ m apart. ap (λ (l : LineMap). get l m) same ∙ get-remove_other old n m apart;
+}
+
+-- after a write-back
+pub evicted-written : (scheme : Scheme) → IsLawful scheme → (old middle new : LineMap) (old_root middle_root new_root : List ℕ) (old_trace new_trace : List Event) (last n : ℕ)
+    → last < 2 ^ 64 → Stands scheme (state_of old old_root old_trace)
+    → WritesBack scheme (state_of old old_root old_trace) (state_of middle middle_root new_trace) last n → new ≡ remove middle n → new_root ≡ middle_root
+    → Evicted scheme (state_of old old_root old_trace) (state_of new new_root new_trace) n
+evicted-written scheme lawful old middle new old_root middle_root new_root old_trace new_trace last n fits stands back same root =
+    let before = state_of old old_root old_trace in
+    let between = state_of middle middle_root new_trace in
+    let after = state_of new new_root new_trace in
+    let step = back.step in
+    let below = stands.inside n back.line step.held in
+    let first = stands-written scheme lawful before between n back.line back.block stands (subst (λ (k : ℕ). k < 2 ^ 64) (sym back.stamped) fits) step in
+    let out : Removed scheme between after n (record { payload = back.line.payload; dirty = false }) = record {
+      leaves = leaves-written scheme new_trace n (write-resident n back.block old_trace new_trace step.event);
+      root = root;
+      held = step.here;
+      clean = refl;
+      lines = puts-removed middle new n same;
+    } in
+    let second = stands-removed scheme lawful between after n (record { payload = back.line.payload; dirty = false }) first.0 out in
+    record {
+      stands = second.0;
+      contents = keeps-both scheme before between after first.1 second.1 (λ deceived. deceived);
+      step = record {
+        event = BlockWrite (Tree n) back.block;
+        appended = step.event;
+        removal = write back.block refl;
+        held = ap (λ (o : Option Line). is_some o) step.held;
+        gone = out.lines.here;
+        others = λ m apart. ap (λ (o : Option Line). is_some o) (out.lines.other m apart) ∙ written-holds scheme before between n back.line back.block step m;
+        leaves = λ m leaf apart. out.lines.other m apart ∙ written-leaves scheme lawful before between n back.line back.block below step m leaf apart;
+      };
+    }
+
+clean-line : (lines : LineMap) (n : ℕ) → dirty_at lines n ≡ Some false → (line : Line) × (get lines n ≡ Some line) × (line.dirty ≡ false)
+clean-line lines n clean = by (get lines n) refl clean
+  where
+    by : (o : Option Line) → get lines n ≡ o → option_map (λ (line : Line). line.dirty) o ≡ Some false → (line : Line) × (get lines n ≡ Some line) × (line.dirty ≡ false)
+    by None found same = cc
+    by (Some line) found same = let e : line.dirty ≡ false = cc in (line, found, e)
+
+-- with a mark
+pub evicted-dropped : (scheme : Scheme) → IsLawful scheme → (old new : LineMap) (old_root new_root : List ℕ) (old_trace new_trace : List Event) (n : ℕ)
+    → Stands scheme (state_of old old_root old_trace) → dirty_at old n ≡ Some false → Appends (Note (Drop (Tree n))) old_trace new_trace → new ≡ remove old n → new_root ≡ old_root
+    → Evicted scheme (state_of old old_root old_trace) (state_of new new_root new_trace) n
+evicted-dropped scheme lawful old new old_root new_root old_trace new_trace n stands clean event same root =
+    let before = state_of old old_root old_trace in
+    let after = state_of new new_root new_trace in
+    let line = clean-line old n clean in
+    let out : Removed scheme before after n line.0 = record {
+      leaves = leaves-dropped scheme old_trace new_trace n event;
+      root = root;
+      held = line.1;
+      clean = line.2;
+      lines = puts-removed old new n same;
+    } in
+    let both = stands-removed scheme lawful before after n line.0 stands out in
+    record {
+      stands = both.0;
+      contents = both.1;
+      step = record {
+        event = Note (Drop (Tree n));
+        appended = event;
+        removal = dropped refl;
+        held = ap (λ (o : Option Line). is_some o) line.1;
+        gone = out.lines.here;
+        others = λ m apart. ap (λ (o : Option Line). is_some o) (out.lines.other m apart);
+        leaves = λ m leaf apart. out.lines.other m apart;
+      };
+    }
+
+-- ---- how many lines there are, and which
+
+pub keeps-len : (layout : Layout) (old new : LineMap) (old_root new_root digest : List ℕ) (n : ℕ) → KeepsDigest layout old new old_root new_root digest n → len new ≡ len old
+keeps-len layout old new old_root new_root digest n keeps =
+    elim (cases_eq n 0) [
+      | inl root ↦ ap (λ (l : LineMap). len l) (keeps.root root).1
+      | inr other ↦
+          let above : 0 < n = omega (arith, other) in
+          let set = keeps.slot above in
+          let line = line-held old (parent_in 3 n) set.1.0 set.1.1 in
+          ap (λ (l : LineMap). len l) set.1.2 ∙ len-payload old (parent_in 3 n) _ (line-holds old (parent_in 3 n) line.0 line.1)
+    ]
+
+pub back-holds : (scheme : Scheme) (old new : LineMap) (old_root new_root : List ℕ) (old_trace new_trace : List Event) (last n : ℕ)
+    → WritesBack scheme (state_of old old_root old_trace) (state_of new new_root new_trace) last n → (m : ℕ) → contains_key new m ≡ contains_key old m
+back-holds scheme old new old_root new_root old_trace new_trace last n back =
+    written-holds scheme (state_of old old_root old_trace) (state_of new new_root new_trace) n back.line back.block back.step
+
+pub back-fits : (scheme : Scheme) (old new : State) (old_last last n : ℕ) → WritesBack scheme old new last n → StampsFit old_last (history old.trace) → last ≡ old_last + 1
+    → StampsFit last (history new.trace)
+back-fits scheme old new old_last last n back fit next =
+    subst (λ (k : ℕ). StampsFit k (history new.trace)) (sym next) (fits-written old_last n back.block old.trace new.trace fit (back.stamped ∙ next) back.step.event)
+
+pub count-removed : (middle new old : LineMap) (n : ℕ) → new ≡ remove middle n → Holds middle n → len middle ≡ len old → len new + 1 ≡ len old
+count-removed middle new old n same held count = omega (arith, ap (λ (l : LineMap). len l) same, len-removed middle n held, count)

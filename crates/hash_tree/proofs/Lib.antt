@@ -1,0 +1,14 @@
+pub mod AsWrittenLemmas
+pub mod GrowthLemmas
+pub mod InsertLemmas
+pub mod RemoveLemmas
+pub mod WriteBackLemmas
+pub mod SlotLemmas
+pub mod SchemeLemmas
+pub mod CallLemmas
+pub mod EvictLemmas
+pub mod MoveLemmas
+pub mod KeptLemmas
+mod Examples
+pub mod LoadLemmas
+pub mod LawProofs

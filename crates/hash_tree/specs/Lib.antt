@@ -1,0 +1,8 @@
+pub mod AsWritten
+pub mod CachedLines
+pub mod HashTrees
+pub mod Schemes
+pub mod Standing
+pub mod TreeParts
+pub mod TreeSteps
+pub mod TreeLaws

@@ -1,0 +1,317 @@
+//! The cached hash tree, after Suh et al., "AEGIS: Architecture for Tamper-Evident and Tamper-Resistant Processing",
+//! ICS 2003. Its numbers are this project's own.
+ghost use Rattle.std.specs.Prelude.{◌≡◌, ℕ, ◌+◌, ◌*◌, ◌^◌, ◌<◌, ◌≤◌, ◌∷◌, false, Contains, IfErr, IfOk, List, [], Some, length, IsTrue};
+ghost use Rattle.std.specs.Borrow.{Lends, sem, u8 as byte, Array};
+ghost use Rattle.std.specs.FinMap.{contains_key, empty, len};
+ghost use Rattle.regions.specs.Tree.{leaf_of, parent_in, positions_of, slot_in, tree_blocks};
+ghost use Rattle.line_cache.specs.LineMaps.{HasParent, HoldParents, Holds, IsChildless, payload_at};
+ghost use Rattle.off_chip.specs.OffChipBytes.{bytes_put};
+ghost use Rattle.block_hash.specs.BlockStrings.{block_digest};
+ghost use Rattle.off_chip.specs.BusCalls.{TellsOnly};
+ghost use Rattle.off_chip.specs.HonestMemory.{IsWhole};
+ghost use Rattle.off_chip.specs.Histories.{history};
+ghost use Rattle.off_chip.specs.WriteBacks.{StampsFit};
+ghost use Rattle.hash_tree.specs.HashTrees.{nodes_of, scheme_of, state_of};
+ghost use Rattle.hash_tree.specs.contracts.tree.Tree.{the_row};
+ghost use Rattle.hash_tree.specs.TreeParts.{SameTree, StandsOn, with_lines};
+ghost use Rattle.hash_tree.specs.TreeSteps.{Evicted, KeepsDigest, Moved, Reads, Stops, TellsKept, WritesBack, uncached};
+ghost use Rattle.hash_tree.specs.CachedLines.{held_in};
+
+use crate::veil::Veil;
+use aegis_num::{Block, Place, Stamps};
+use block_hash::block_digest;
+use line_cache::{Lines, Pins};
+use off_chip::{Mark, OffChip};
+use regions::{Layout, leaf};
+use std::marker::Model;
+
+// How many children a node has.
+const FAN: u32 = 3;
+
+// How many bytes a digest has.
+const DIGEST_BYTES: usize = 20;
+
+/// A block was read whose digest is not the one that the tree keeps of it.
+#[derive(Clone, Copy, Debug, PartialEq, Eq)]
+pub struct Changed {
+    /// The number of the read among the events of the bus, counted from 0.
+    pub event: u64,
+}
+
+/// A cached hash tree over off-chip memory. Contracts see its cache, its veil, its layout and the digest of the root.
+#[derive(Drop)]
+pub struct Tree<L: Lines, V: Veil> {
+    lines: L,
+    veil: V,
+    layout: Layout,
+    root: [u8; 20],
+}
+
+impl<L: Lines, V: Veil> Model for Tree<L, V> {
+    ghost use Rattle.std.specs.Prelude.{◌≡◌};
+    ghost use Rattle.hash_tree.specs.TreeParts.{TreeParts};
+    ghost use Rattle.hash_tree.specs.HashTrees.{nodes_of};
+
+    ghost Value = { TreeParts L V };
+
+    ghost view = { λ t. record { lines = t.lines; veil = t.veil; layout = t.layout; root = t.root } };
+
+    ghost invariant = { λ t. V.nodes t.veil ≡ nodes_of t.layout };
+}
+
+impl<L: Lines, V: Veil> Tree<L, V> {
+    /// A tree over lines that hold nothing.
+    pub fn new(lines: L, veil: V, layout: Layout) -> Tree<L, V>
+        requires nothing { L.lines lines ≡ empty }
+        requires nodes { V.nodes veil ≡ nodes_of layout }
+        ensures lines { result.lines ≡ lines }
+        ensures veil { result.veil ≡ veil }
+        ensures layout { result.layout ≡ layout }
+    {
+        Tree {
+            lines,
+            veil,
+            layout,
+            root: [0; 20],
+        }
+    }
+
+    /// The payload of a data block that has a line.
+    pub fn payload(&self, position: u32) -> &[u8; 64]
+        requires position { position < positions_of self.now.layout }
+        requires held { Holds (L.lines self.now.lines) (leaf_of self.now.layout position) }
+        ensures value { payload_at (L.lines self.now.lines) (leaf_of self.now.layout position) ≡ Some result.now }
+    {
+        self.lines.payload(leaf(&self.layout, position))
+    }
+
+    /// The payload of a data block that has a line, to be changed. The line counts as changed, and what stands there when the
+    /// loan ends are the contents of the block from then on, as `lending_changes_contents` says.
+    pub fn payload_mut(&mut self, position: u32) -> &mut [u8; 64]
+        requires position { position < positions_of self.old.layout }
+        requires held { Holds (L.lines self.old.lines) (leaf_of self.old.layout position) }
+        ensures* writes_back { sem 𝓛 (Lends (the_row L.row V.row L.Lines V.Veil) (Array byte 64) self.entry result
+            (with_lines self.old (L.lent self.old.lines (leaf_of self.old.layout position)))) }
+        ensures value { payload_at (L.lines self.old.lines) (leaf_of self.old.layout position) ≡ Some result.now }
+    {
+        let block = leaf(&self.layout, position);
+        self.lines.line_mut(block)
+    }
+
+    // Writes the line of a block back, which is clean then, and keeps the digest of what was written.
+    fn write_back<O: OffChip>(&mut self, bus: &mut O, stamps: &mut Stamps, block: u32)
+        requires held { Holds (L.lines self.old.lines) block }
+        requires stands { StandsOn self.old (L.lines self.old.lines) (V.veiled self.old.veil) (O.trace bus.old) }
+        requires fit { StampsFit stamps.old (history (O.trace bus.old)) }
+        requires has_room { 0 < O.room bus.old }
+        requires limit { length (O.trace bus.old) + O.room bus.old < 2 ^ 64 }
+        requires told { TellsOnly self.old.layout (O.layout bus.old) }
+        ensures tree { SameTree self.old self.new }
+        ensures step { WritesBack (scheme_of self.old.layout (V.veiled self.old.veil))
+            (state_of (L.lines self.old.lines) self.old.root (O.trace bus.old))
+            (state_of (L.lines self.new.lines) self.new.root (O.trace bus.new)) stamps.new block }
+        ensures stamp { stamps.new ≡ stamps.old + 1 }
+        ensures room { O.room bus.new + 1 ≡ O.room bus.old }
+        ensures same { O.same_memory bus.old bus.new }
+        ensures count { len (L.lines self.new.lines) ≡ len (L.lines self.old.lines) }
+        ensures childless { IsChildless (L.lines self.old.lines) block → IsChildless (L.lines self.new.lines) block }
+        ensures held { Holds (L.lines self.new.lines) block }
+    {
+        let mut payload = *self.lines.payload(block);
+        let stamp = stamps.fresh();
+        self.veil.veil(block, stamp, &mut payload);
+        let written = Block { payload, stamp };
+        bus.write_block(Place::Tree(block), &written);
+        self.lines.clean(block);
+        self.keep_digest(block, block_digest(block, &written));
+    }
+
+    // Takes out the line of a block, after a write where it is dirty, and else with a mark.
+    fn evict<O: OffChip>(&mut self, bus: &mut O, stamps: &mut Stamps, block: u32)
+        requires held { Holds (L.lines self.old.lines) block }
+        requires childless { IsChildless (L.lines self.old.lines) block }
+        requires stands { StandsOn self.old (L.lines self.old.lines) (V.veiled self.old.veil) (O.trace bus.old) }
+        requires fit { StampsFit stamps.old (history (O.trace bus.old)) }
+        requires has_room { 0 < O.room bus.old }
+        requires limit { length (O.trace bus.old) + O.room bus.old < 2 ^ 64 }
+        requires told { TellsOnly self.old.layout (O.layout bus.old) }
+        ensures tree { SameTree self.old self.new }
+        ensures does { Evicted (scheme_of self.old.layout (V.veiled self.old.veil))
+            (state_of (L.lines self.old.lines) self.old.root (O.trace bus.old))
+            (state_of (L.lines self.new.lines) self.new.root (O.trace bus.new)) block }
+        ensures fit { StampsFit stamps.new (history (O.trace bus.new)) }
+        ensures count { len (L.lines self.new.lines) + 1 ≡ len (L.lines self.old.lines) }
+        ensures room { O.room bus.new + 1 ≡ O.room bus.old }
+        ensures limit { length (O.trace bus.new) + O.room bus.new < 2 ^ 64 }
+        ensures same { O.same_memory bus.old bus.new }
+    {
+        if self.lines.dirty(block) {
+            self.write_back(bus, stamps, block);
+            self.lines.remove(block);
+        } else {
+            bus.note(Mark::Drop(Place::Tree(block)));
+            self.lines.remove(block);
+        }
+    }
+
+    // Takes lines out until there is room for one of this block. Pinned blocks keep theirs.
+    fn make_room<O: OffChip>(&mut self, bus: &mut O, stamps: &mut Stamps, block: u32, pins: &Pins)
+        requires parents { HoldParents pins.now.blocks.items }
+        requires stands { StandsOn self.old (L.lines self.old.lines) (V.veiled self.old.veil) (O.trace bus.old) }
+        requires fit { StampsFit stamps.old (history (O.trace bus.old)) }
+        requires has_room { len (L.lines self.old.lines) ≤ O.room bus.old }
+        requires limit { length (O.trace bus.old) + O.room bus.old < 2 ^ 64 }
+        requires told { TellsOnly self.old.layout (O.layout bus.old) }
+        ensures tree { SameTree self.old self.new }
+        ensures does { Moved (scheme_of self.old.layout (V.veiled self.old.veil)) pins.now.blocks.items
+            (state_of (L.lines self.old.lines) self.old.root (O.trace bus.old))
+            (state_of (L.lines self.new.lines) self.new.root (O.trace bus.new)) [] }
+        ensures fit { StampsFit stamps.new (history (O.trace bus.new)) }
+        ensures ready { IsTrue (L.has_room self.new.lines block) }
+        ensures room { O.room bus.new + len (L.lines self.old.lines)
+            ≡ O.room bus.old + len (L.lines self.new.lines) }
+        ensures limit { length (O.trace bus.new) + O.room bus.new < 2 ^ 64 }
+        ensures same { O.same_memory bus.old bus.new }
+    {
+        while let Some(victim) = self.lines.victim(block, pins) {
+            self.evict(bus, stamps, victim);
+        }
+    }
+
+    // Gives a block a line whose parent has one: by a read, where it has none yet.
+    fn load_block<O: OffChip>(
+        &mut self,
+        bus: &mut O,
+        stamps: &mut Stamps,
+        block: u32,
+        pins: &Pins,
+    ) -> Result<(), Changed>
+        requires parent { HasParent (L.lines self.old.lines) block }
+        requires inside { block < tree_blocks self.old.layout }
+        requires pinned { Contains pins.now.blocks.items block }
+        requires parents { HoldParents pins.now.blocks.items }
+        requires stands { StandsOn self.old (L.lines self.old.lines) (V.veiled self.old.veil) (O.trace bus.old) }
+        requires fit { StampsFit stamps.old (history (O.trace bus.old)) }
+        requires has_room { len (L.lines self.old.lines) + 2 ≤ O.room bus.old }
+        requires limit { length (O.trace bus.old) + O.room bus.old < 2 ^ 64 }
+        requires told { TellsOnly self.old.layout (O.layout bus.old) }
+        ensures tree { SameTree self.old self.new }
+        ensures ok { IfOk result (λ _. Moved (scheme_of self.old.layout (V.veiled self.old.veil)) pins.now.blocks.items
+            (state_of (L.lines self.old.lines) self.old.root (O.trace bus.old))
+            (state_of (L.lines self.new.lines) self.new.root (O.trace bus.new))
+            (uncached (held_in (L.lines self.old.lines)) (block ∷ []))) }
+        ensures held { IfOk result (λ _. Holds (L.lines self.new.lines) block) }
+        ensures changed { IfErr result (λ changed. Stops (scheme_of self.old.layout (V.veiled self.old.veil)) pins.now.blocks.items
+            (state_of (L.lines self.old.lines) self.old.root (O.trace bus.old))
+            (state_of (L.lines self.new.lines) self.new.root (O.trace bus.new)) changed.event) }
+        ensures fit { StampsFit stamps.new (history (O.trace bus.new)) }
+        ensures same { O.same_memory bus.old bus.new }
+    {
+        if self.lines.holds(block) {
+            self.lines.touch(block);
+            return Ok(());
+        }
+        self.make_room(bus, stamps, block, pins);
+        let event = bus.events();
+        if !self.read(bus, block) {
+            return Err(Changed { event });
+        }
+        Ok(())
+    }
+
+    // Whether a digest is the one that is kept of a block: for the root on the chip, and else in the line of its parent.
+    fn has_digest(&self, block: u32, digest: &[u8; 20]) -> bool
+        requires parent { HasParent (L.lines self.now.lines) block }
+        ensures kept { TellsKept (scheme_of self.now.layout (V.veiled self.now.veil))
+            (L.lines self.now.lines) self.now.root block digest.now result }
+    {
+        if block == 0 {
+            return self.root == *digest;
+        }
+        let at = DIGEST_BYTES * slot_of(block) as usize;
+        self.lines.payload(parent_of(block))[at..at + DIGEST_BYTES] == digest[..]
+    }
+
+    // Reads a block that has no line. It gets one if it has the digest that is kept of it.
+    fn read<O: OffChip>(&mut self, bus: &mut O, block: u32) -> bool
+        requires absent { contains_key (L.lines self.old.lines) block ≡ false }
+        requires parent { HasParent (L.lines self.old.lines) block }
+        requires ready { IsTrue (L.has_room self.old.lines block) }
+        requires inside { block < tree_blocks self.old.layout }
+        requires has_room { 0 < O.room bus.old }
+        requires told { TellsOnly self.old.layout (O.layout bus.old) }
+        ensures tree { SameTree self.old self.new }
+        ensures does { Reads (scheme_of self.old.layout (V.veiled self.old.veil))
+            (state_of (L.lines self.old.lines) self.old.root (O.trace bus.old))
+            (state_of (L.lines self.new.lines) self.new.root (O.trace bus.new)) block result }
+        ensures count { IsTrue result → len (L.lines self.new.lines) ≡ len (L.lines self.old.lines) + 1 }
+        ensures room { O.room bus.new + 1 ≡ O.room bus.old }
+        ensures same { O.same_memory bus.old bus.new }
+    {
+        let mut found = Block {
+            payload: [0; 64],
+            stamp: 0,
+        };
+        bus.read_block(Place::Tree(block), &mut found);
+        if !self.has_digest(block, &digest_of(block, &found.payload, found.stamp)) {
+            return false;
+        }
+        self.veil.veil(block, found.stamp, &mut found.payload);
+        self.lines.insert(block, &found.payload);
+        true
+    }
+
+    // Keeps the digest of a block: for the root on the chip, and else in the line of its parent.
+    fn keep_digest(&mut self, block: u32, digest: [u8; 20])
+        requires parent { HasParent (L.lines self.old.lines) block }
+        ensures tree { SameTree self.old self.new }
+        ensures kept { KeepsDigest self.old.layout (L.lines self.old.lines) (L.lines self.new.lines)
+            self.old.root self.new.root digest block }
+        ensures room { (other : ℕ) → L.has_room self.new.lines other ≡ L.has_room self.old.lines other }
+    {
+        if block == 0 {
+            self.root = digest;
+        } else {
+            let payload = self.lines.line_mut(parent_of(block));
+            put_digest(payload, slot_of(block), &digest);
+        }
+    }
+}
+
+// The digest of a tree block, by its payload of 64 bytes and its stamp of 64 bits.
+fn digest_of(number: u32, payload: &[u8; 64], stamp: u64) -> [u8; 20]
+    ensures value { result ≡ block_digest number (record { payload = payload.now; stamp = stamp }) }
+    ensures whole { IsWhole (record { payload = payload.now; stamp = stamp }) }
+{
+    let block = Block {
+        payload: *payload,
+        stamp,
+    };
+    block_digest(number, &block)
+}
+
+// The node above a block that is not the root.
+fn parent_of(block: u32) -> u32
+    requires { 0 < block }
+    ensures { result ≡ parent_in 3 block }
+{
+    (block - 1) / FAN
+}
+
+// Which child of the node above it a block is that is not the root.
+fn slot_of(block: u32) -> u32
+    requires { 0 < block }
+    ensures value { result ≡ slot_in 3 block }
+    ensures limit { result < 3 }
+{
+    (block - 1) % FAN
+}
+
+// Puts a digest into a slot of the payload of a node.
+fn put_digest(payload: &mut [u8; 64], slot: u32, digest: &[u8; 20])
+    requires { slot < 3 }
+    ensures { payload.new ≡ bytes_put (20 * slot) digest.now payload.old }
+{
+    let at = DIGEST_BYTES * slot as usize;
+    payload[at..at + DIGEST_BYTES].copy_from_slice(digest);
+}
