@@ -1,0 +1,3 @@
+pub mod OnlyAdds
+mod Stuck
+pub mod Worked

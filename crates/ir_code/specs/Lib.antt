@@ -1,0 +1,5 @@
+pub mod FlatLaws
+pub mod FlatMeaning
+pub mod FlatStates
+pub mod Lawful
+pub mod OpTable
