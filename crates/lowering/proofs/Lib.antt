@@ -1,0 +1,16 @@
+pub mod Relation
+pub mod Labels
+pub mod Ops
+pub mod Calling
+pub mod Expressions
+pub mod Statements
+pub mod Functions
+pub mod Programs
+pub mod Homes
+pub mod Standing
+pub mod CellsOfFunctions
+pub mod Fitting
+pub mod Variables
+pub mod Names
+pub mod Whole
+mod Worked

@@ -1,0 +1,69 @@
+-- Promise: what it means that flat code does what a program means.
+use Rattle.regions.specs.LooseClasses.{shared_loose, shared_and_logged_loose}
+use Rattle.std.specs.Prelude.{◌≡◌, ◌≢◌, ℕ, ◌+◌, ◌*◌, ◌≤◌, Bool, List, map, Option, Some, None}
+use Rattle.execution.specs.Run.{Stops, state_of}
+use Rattle.execution.specs.Traffic.{Element, Entry, Extends}
+use Rattle.execution.specs.Naming.{entry_named, traffic_named}
+use Rattle.regions.specs.declared.rights.Class.{Class}
+use Rattle.c_semantics.specs.ResolvedTree.{Program}
+use Rattle.c_semantics.specs.States as source
+use Rattle.c_semantics.specs.Meaning.{Meaning, first_memory, mean, noting_all}
+use Rattle.c_semantics.specs.ProgramShape.{IsShaped}
+use Rattle.ir_code.specs.declared.code.Ir.{Ir}
+use Rattle.ir_code.specs.FlatStates.{FlatState, FlatEnd, Ended, Index, Divide, Starved, Word, first_cells}
+use Rattle.ir_code.specs.Lawful.{IsNeverStuck}
+use Rattle.lowering.specs.Cells.{home_of, source_element, cell_element}
+use Rattle.lowering.specs.Lowering.{lowered}
+use Rattle.ir_code.specs.FlatMeaning.{flat_run}
+
+-- The end of flat code that an end of the source is; flat code has no bound on turns.
+abbrev pub flat_end : source.End → Option FlatEnd
+flat_end source.Ended = Some Ended
+flat_end (source.Index at) = Some (Index at)
+flat_end (source.Divide at) = Some (Divide at)
+flat_end source.Starved = Some Starved
+flat_end source.Turns = None
+
+-- it has ended so, at what the source has come to, for at most 32 units of weight a unit of work
+pub record EndsLike (name : Element → Element) (m : Meaning) (end : FlatEnd) (at : FlatState) : Type 0 where
+  pub ending : flat_end m.end ≡ Some end
+  pub traffic : traffic_named name at.traffic ≡ m.traffic
+  pub weight : at.weight ≤ 32 * m.work
+
+-- it has come so far as the source has or less far
+pub record IsFront (name : Element → Element) (m : Meaning) (at : FlatState) : Type 0 where
+  pub traffic : Extends (traffic_named name at.traffic) m.traffic
+  pub weight : at.weight ≤ 32 * m.work
+
+-- With these classes loose, flat code does what a program means, on each input and for each list of loose words, where the elements
+-- of cells stand for those of variables by their names.
+pub record MeansAs (is_loose : Class → Bool) (p : Program) (ir : Ir) (name : Element → Element) : Type 0 where
+  -- it comes to the end of the program
+  pub forward : (input : List ℕ) (loose : List (Entry Element)) (turns : ℕ) →
+      let m : Meaning = mean (noting_all is_loose) p input (map (entry_named name) loose) turns in
+      m.end ≢ source.Turns → (steps : ℕ) × (end : FlatEnd) × (at : FlatState) × (flat_run is_loose ir input loose steps ≡ Stops end at) × EndsLike name m end at
+  -- at each moment it has come to a front of what the program does with 64 turns for each jump and 64 more
+  pub backward : (input : List ℕ) (loose : List (Entry Element)) (steps : ℕ) →
+      let at : FlatState = state_of (flat_run is_loose ir input loose steps) in
+      IsFront name (mean (noting_all is_loose) p input (map (entry_named name) loose) (64 * (at.jumps + 1))) at
+  -- where it has ended, that is the end of the program
+  pub ended : (input : List ℕ) (loose : List (Entry Element)) (steps : ℕ) (end : FlatEnd) (at : FlatState) → flat_run is_loose ir input loose steps ≡ Stops end at →
+      EndsLike name (mean (noting_all is_loose) p input (map (entry_named name) loose) (64 * (at.jumps + 1))) end at
+
+-- what the cells of variables hold before the first operation is what the variables hold
+abbrev pub Starts : Program → Type 0
+Starts p = (t i : ℕ) → first_cells (lowered p) (home_of p t) i ≡ Word (first_memory p.objects t i)
+
+-- What is proved of the flat code of a program of the right shape whose cells start as its variables do, with these classes loose:
+-- it does what the program means, and is never stuck.
+pub record IsLowered (is_loose : Class → Bool) (p : Program) : Type 0 where
+  pub meaning : MeansAs is_loose p (lowered p) (source_element p)
+  pub runs : IsNeverStuck is_loose (lowered p)
+
+-- with shared and logged words loose, and with shared words alone
+abbrev pub Lowers : Type 0
+Lowers = (p : Program) → IsShaped p → Starts p → IsLowered shared_and_logged_loose p × IsLowered shared_loose p
+
+-- the names of cells reach each element of the source, by its own cell
+abbrev pub NamesReach : Type 0
+NamesReach = (p : Program) (e : Element) → source_element p (cell_element p e) ≡ e

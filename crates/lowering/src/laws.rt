@@ -1,0 +1,11 @@
+//! Laws of lowered programs.
+ghost use Rattle.lowering.specs.LoweringLaws.{Lowers, NamesReach};
+
+/// The flat code of a program of the right shape, whose cells start as its variables do, does what the program means, with
+/// shared and logged words loose and with shared words alone: it comes to the same end with the same bytes, writes and counts,
+/// for at most 32 units of weight a unit of work; at each moment it has come to a front of what the program does with 64
+/// turns for each jump and 64 more; and it is never stuck.
+pub fn lowered_code_means_the_source()
+    ensures meaning { Lowers }
+    ensures names { NamesReach }
+{}

@@ -1,0 +1,6 @@
+//! How programs with resolved names are lowered to flat code, as definitions, and what follows from them.
+#![tactic(auto)]
+
+mod laws;
+
+pub use laws::lowered_code_means_the_source;
