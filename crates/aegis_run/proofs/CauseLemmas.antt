@@ -1,6 +1,6 @@
 -- A command halts in one place: where a folder tells its files, there is cause for one answer, failures aside.
 use Rattle.std.specs.Prelude.{◌↔◌, IfSome}
-use Rattle.std.proofs.Common.{◌≡◌, ◌≢◌, ◌⊎◌, Bool, inl, inr, ⊎_elim, ℕ, List, [], ◌∷◌, Option, None, Some, refl, sym, ◌∙◌, ap, subst}
+use Rattle.std.proofs.Common.{◌≡◌, ◌⊎◌, Bool, inl, inr, ⊎_elim, ℕ, List, [], ◌∷◌, Option, None, Some, refl, sym, ◌∙◌, ap, subst}
 use Rattle.aegis_edge.specs.Folder.{Files, Asking, IsMissing, IsTooLong}
 use Rattle.c_grammar.specs.declared.item.Program.{Program}
 use Rattle.c_resolver.specs.Resolving.{plain_program}
@@ -12,7 +12,7 @@ use Rattle.aegis_words.specs.CommandTable as asks
 use Rattle.aegis_words.specs.FileReading.{HasText, Passes, ArePassed}
 use Rattle.aegis_words.specs.FileSteps.{FileStep, limit_for, step_in}
 use Rattle.aegis_words.specs.MeanWordRow.{MeanNames, mean_steps}
-use Rattle.aegis_words.specs.RunWordRow.{RunNames, run_steps}
+use Rattle.aegis_words.specs.RunWordRow.{RunNames}
 use Rattle.aegis_words.proofs.FileReadingLemmas.{text_once, text_missing, text_too_long, missing_too_long, one_place, passed_alike}
 use Rattle.aegis_run.specs.declared.ends.TopEnd.{TopEnd}
 use Rattle.aegis_run.specs.declared.ends.TopEnd.TheVariants.{Run, Mean, Usage, TooLong, Token, Syntax, Typing, NotYet, NoFile, ReadFault, WriteFault, OutOfMemory}
@@ -20,7 +20,7 @@ use Rattle.aegis_run.specs.Answers.{IsRefusal, IsFailure}
 use Rattle.aegis_run.specs.Causes.{AreTold, Cause, IfMean, IfRun, Serves, Stops, IsOwn, Completes, CauseAt, CauseAtFile, HasCause, IsStoppedByText, RefusesWhere}
 use Rattle.aegis_run.specs.Literals.{literals_of}
 use Rattle.aegis_run.specs.MeanCommand.{IsOwnOfMean, MeanCommand, MeanMeans, ServesMean, StopsMean, TellsMeaning}
-use Rattle.aegis_run.specs.RunCommand.{RunCommand, IsOwnOfRun, RunMeans, ServesRun, StopsRun}
+use Rattle.aegis_run.specs.RunCommand.{RunCommand, IsOwnOfRun, ServesRun, StopsRun}
 use Rattle.aegis_run.specs.Report.{Notes, line_of}
 use Rattle.aegis_run.specs.SourceTexts.{IsSource, SourceFault}
 use Rattle.aegis_run.proofs.SourceLemmas.{accepted_fault, one_fault, one_text}

@@ -1,5 +1,5 @@
 -- What stops each command, and what its own answers put into a sink.
-use Rattle.std.proofs.Common.{◌≡◌, inl, inr, ℕ, ◌+◌, ◌*◌, ◌%◌, List, [], ◌∷◌, length, Option, None, Some, refl, sym, ◌∙◌, ap, subst}
+use Rattle.std.proofs.Common.{◌≡◌, inl, inr, ℕ, ◌+◌, ◌*◌, ◌%◌, List, [], ◌∷◌, length, Option, None, Some, refl, sym, subst}
 use Rattle.std.proofs.lemmas.List.{length-map}
 use Rattle.aegis_edge.specs.Folder.{Files, Asking}
 use Rattle.aegis_edge.specs.Sink.{Appends, AppendsFront}

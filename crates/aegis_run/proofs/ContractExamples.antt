@@ -1,6 +1,5 @@
 -- Worked examples of causes, of what each command sends and of what notes take.
-use Rattle.std.proofs.Common.{◌≡◌, ◌⊎◌, inl, inr, ℕ, ◌<◌, ◌≤◌, true, false, List, [], ◌∷◌, replicate, length, Option, None, Some, refl, arith}
-use Rattle.std.specs.Prelude.{codes}
+use Rattle.std.proofs.Common.{◌≡◌, ◌⊎◌, inl, inr, ℕ, true, false, List, [], ◌∷◌, Option, None, Some, refl, arith}
 use Rattle.aegis_edge.specs.Folder.{Files, Asking, Asks}
 use Rattle.aegis_words.specs.declared.file.File.TheVariants.{Source, Script, Input}
 use Rattle.aegis_words.specs.CommandTable.{Command, step_after}
@@ -13,7 +12,7 @@ use Rattle.c_evaluator.specs.declared.mean_end.MeanEnd.TheVariants as mean
 use Rattle.aegis_run.specs.declared.ends.End.TheVariants.{Ended, WriteFault as ByteLost}
 use Rattle.aegis_run.specs.declared.ends.TopEnd.TheVariants.{Run, Mean, Usage, TooLong, NotYet, NoFile, ReadFault, WriteFault, OutOfMemory}
 use Rattle.aegis_run.specs.Answers.{IsFailure, IsFileFault, IsRefusal, IsWriteFault, RisesWhere}
-use Rattle.aegis_run.specs.Causes.{AreTold, Cause, CauseAt, CauseAtFile, HasCause, IfMean, IfRun, IsAnswered, IsOwn, Serves, Stops}
+use Rattle.aegis_run.specs.Causes.{AreTold, Cause, CauseAt, CauseAtFile, IfMean, IfRun, IsAnswered, IsOwn, Serves}
 use Rattle.aegis_run.specs.MeanCommand.{MeanCommand, ServesMean, StopsMean}
 use Rattle.aegis_run.specs.Report.{Notes}
 use Rattle.aegis_run.specs.RunCommand.{RunCommand, ServesRun, StopsRun}

@@ -1,15 +1,15 @@
 -- The way of a command through its files, a step at a time.
-use Rattle.std.proofs.Common.{◌≡◌, inl, inr, ℕ, List, [], ◌∷◌, ◌++◌, map, Option, None, Some, Result, Ok, Err, refl, sym, ◌∙◌, ap, subst, append_assoc, append-nil}
+use Rattle.std.proofs.Common.{◌≡◌, ℕ, List, [], ◌∷◌, ◌++◌, Option, None, Some, Result, Ok, Err, refl, sym, ◌∙◌, ap, subst, append_assoc, append-nil}
 use Rattle.std.specs.Prelude.{IfErr, IsErrAnd}
 use Rattle.std.proofs.lemmas.List.{map-append}
 use Rattle.aegis_edge.specs.Folder.{Files, Asking, Asks, AsksOne}
 use Rattle.aegis_words.specs.CommandTable.{Command, step_after}
-use Rattle.aegis_words.specs.FileReading.{HasText, ArePassed, Passes, listed, steps_read, steps_asked}
+use Rattle.aegis_words.specs.FileReading.{HasText, Passes, listed, steps_read}
 use Rattle.aegis_words.specs.FileSteps.{FileStep, askings_for}
 use Rattle.aegis_run.specs.declared.ends.TopEnd.{TopEnd}
 use Rattle.aegis_run.specs.declared.ends.TopEnd.TheVariants.{Run, Mean, Usage, TooLong, Token, Syntax, Typing, NotYet, NoFile, ReadFault, WriteFault, OutOfMemory}
 use Rattle.aegis_run.specs.Answers.{IsFileFault}
-use Rattle.aegis_run.specs.Causes.{Serves, CauseAt, CauseAtFile, HasCause, IsAnswered}
+use Rattle.aegis_run.specs.Causes.{Serves, CauseAt, CauseAtFile, IsAnswered}
 use Rattle.aegis_run.specs.Reading.{HasRead, IsStopped, OpenCause, Writes}
 
 -- what was asked for one after another was asked for in all
