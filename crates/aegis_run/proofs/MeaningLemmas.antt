@@ -23,7 +23,8 @@ use Rattle.c_semantics.specs.ResolvedTree as Tree
 use Rattle.c_semantics.specs.States.{Setting, State, Ended, Outcome, GoesOn, then, tick, releasing}
 use Rattle.c_semantics.specs.Meaning.{Calls, Flow, Returned, result_of, Meaning, meaning, meaning_of, first_state, no_calls, mean_alone}
 use Rattle.regions.specs.LooseClasses.{nothing_loose}
-use Rattle.c_resolver.specs.Resolving.{Resolved, expr_step, typed, ResolvedStmt, stmt_step, resolved, body_in, function_number, main_token, plain_program}
+use Rattle.c_resolver.specs.Resolving.{Resolved, typed_step, typed_expr, ResolvedStmt, resolved_step, resolved, function_number, main_token, plain_program}
+use Rattle.c_resolver.specs.ResolvingViews.{body_in}
 use Rattle.c_types.specs.Checked.{is_int, is_main}
 use Rattle.aegis_run.specs.Literals.{literal_in, released_by, returns_literal, body_literals, item_literals, items_literals, literals_of}
 use Rattle.aegis_run.proofs.LengthLemmas.{parts, where_true}
@@ -102,25 +103,25 @@ return_form (stmt.Release _ _) same = absurd cc
 -- ---- their names resolved
 
 typed_number : (fs : List ℕ) (number : ℕ) (unsigned : Bool) (token : ℕ) (known : List Declaration)
-    → typed fs (expr.Number number unsigned token) known ≡ record { unsigned = unsigned; expr = Tree.Number number }
+    → typed_expr fs (expr.Number number unsigned token) known ≡ record { unsigned = unsigned; expr = Tree.Number number }
 typed_number fs number unsigned token known =
-    ap (λ e. typed fs e known) (sym (expr.rolls-Number number unsigned token))
-    ∙ ap (λ r. r known) (fold-roll-Expr Resolved (expr_step fs) (Expr-F.Number number unsigned token))
+    ap (λ e. typed_expr fs e known) (sym (expr.rolls-Number number unsigned token))
+    ∙ ap (λ r. r known) (fold-roll-Expr Resolved (typed_step fs) (Expr-F.Number number unsigned token))
 
-typed_literal : (fs : List ℕ) (e : Expr) (number : ℕ) (known : List Declaration) → literal_in e ≡ Some number → (typed fs e known).expr ≡ Tree.Number number
+typed_literal : (fs : List ℕ) (e : Expr) (number : ℕ) (known : List Declaration) → literal_in e ≡ Some number → (typed_expr fs e known).expr ≡ Tree.Number number
 typed_literal fs e number known same =
     let is = number_form e number same in
-    ap (λ e. (typed fs e known).expr) is.form ∙ ap (λ t. t.expr) (typed_number fs number is.unsigned is.token known)
+    ap (λ e. (typed_expr fs e known).expr) is.form ∙ ap (λ t. t.expr) (typed_number fs number is.unsigned is.token known)
 
 resolved_release : (fs : List ℕ) (value : Expr) (token : ℕ)
-    → resolved fs (stmt.Release value token) ≡ record { declared = []; at = λ known. Tree.Release (typed fs value known).expr }
+    → resolved fs (stmt.Release value token) ≡ record { declared = []; at = λ known. Tree.Release (typed_expr fs value known).expr }
 resolved_release fs value token =
-    ap (resolved fs) (sym (stmt.rolls-Release value token)) ∙ fold-roll-Stmt ResolvedStmt (stmt_step fs) (Stmt-F.Release value token)
+    ap (resolved fs) (sym (stmt.rolls-Release value token)) ∙ fold-roll-Stmt ResolvedStmt (resolved_step fs) (Stmt-F.Release value token)
 
 resolved_return : (fs : List ℕ) (value : Expr) (token : ℕ)
-    → resolved fs (stmt.Return (Some value) token) ≡ record { declared = []; at = λ known. Tree.Return (Some (typed fs value known).expr) }
+    → resolved fs (stmt.Return (Some value) token) ≡ record { declared = []; at = λ known. Tree.Return (Some (typed_expr fs value known).expr) }
 resolved_return fs value token =
-    ap (resolved fs) (sym (stmt.rolls-Return (Some value) token)) ∙ fold-roll-Stmt ResolvedStmt (stmt_step fs) (Stmt-F.Return (Some value) token)
+    ap (resolved fs) (sym (stmt.rolls-Return (Some value) token)) ∙ fold-roll-Stmt ResolvedStmt (resolved_step fs) (Stmt-F.Return (Some value) token)
 
 release_at : (fs : List ℕ) (x : Stmt) (number : ℕ) (known : List Declaration) → released_by x ≡ Some number
     → (resolved fs x).at known ≡ Tree.Release (Tree.Number number)
