@@ -1,0 +1,6 @@
+mod CipherExamples
+mod FieldExamples
+pub mod PadLemmas
+pub mod RoundLemmas
+pub mod TableLemmas
+pub mod WordLemmas

@@ -1,0 +1,4 @@
+pub mod Cipher
+pub mod Field
+pub mod KeptKeys
+pub mod Pads
