@@ -1,31 +1,27 @@
 -- The steps on words are the steps on bytes.
 use Rattle.std.proofs.Common.{◌≡◌, ℕ, zero, suc, ◌+◌, ◌<◌, ◌≤◌, List, [], ◌∷◌, ◌++◌, length, slice_index, slice_set, refl, sym, ap, ap₂, subst, ◌∙◌, inl, inr, add-one, arith}
 use Rattle.std.specs.List.{slice_index_or}
-use Rattle.std.specs.Int.{w32, to_be_bytes, from_be_bytes, rotate_right}
+use Rattle.std.specs.Int.{w32, to_be_bytes, rotate_right}
 use Rattle.std.proofs.lemmas.Bool.{cases_lt}
 use Rattle.std.proofs.lemmas.List.{get_or-set_same, get_or-set_other}
 use Rattle.aes_pad.specs.declared.tables.TheConstants.{SUBSTITUTES, MIXED, ROUND_CONSTANTS}
 use Rattle.aes_pad.specs.Field.{◌⊕◌, sub_byte}
 use Rattle.aes_pad.specs.Cipher.{xor_bytes, mixed, power_of_x, next_key, round_key, next_state, last_state, state_after, cipher}
 use Rattle.aes_pad.specs.KeptKeys.{bytes_of, kept_key}
-use Rattle.aes_pad.proofs.TableLemmas.{substitute, sub_byte-below, mixed_row_0, mixed_row_1, mixed_row_2, mixed_row_3, round_constant}
-use Rattle.aes_pad.proofs.WordLemmas.{four_parts, four_sums, word-xor, word_from}
+use Rattle.aes_pad.proofs.TableLemmas.{substitute, mixed_row_0, mixed_row_1, mixed_row_2, mixed_row_3, round_constant}
+use Rattle.aes_pad.proofs.WordLemmas.{four_bytes, four_parts, four_sums, word-xor}
 
 abbrev word_bytes : ℕ → List ℕ
 word_bytes w = to_be_bytes w32 w
 
 -- ---- words of four bytes
 
-of_four : (a b c d p q r s : ℕ) → a ≡ p → b ≡ q → c ≡ r → d ≡ s → from_be_bytes w32 (a ∷ b ∷ c ∷ d ∷ []) ≡ from_be_bytes w32 (p ∷ q ∷ r ∷ s ∷ [])
-of_four a b c d p q r s ea eb ec ed = rw (ea, eb, ec, ed) refl
-
 pub substituted : (a b c d n : ℕ) → a < 256 → b < 256 → c < 256 → d < 256
-    → n ≡ from_be_bytes w32 (slice_index SUBSTITUTES a ∷ slice_index SUBSTITUTES b ∷ slice_index SUBSTITUTES c ∷ slice_index SUBSTITUTES d ∷ [])
+    → to_be_bytes w32 n ≡ slice_index SUBSTITUTES a ∷ slice_index SUBSTITUTES b ∷ slice_index SUBSTITUTES c ∷ slice_index SUBSTITUTES d ∷ []
     → to_be_bytes w32 n ≡ sub_byte a ∷ sub_byte b ∷ sub_byte c ∷ sub_byte d ∷ []
 substituted a b c d n ha hb hc hd is =
-    word_from (sub_byte a) (sub_byte b) (sub_byte c) (sub_byte d) n (sub_byte-below a ha) (sub_byte-below b hb) (sub_byte-below c hc) (sub_byte-below d hd)
-    (is ∙ of_four (slice_index SUBSTITUTES a) (slice_index SUBSTITUTES b) (slice_index SUBSTITUTES c) (slice_index SUBSTITUTES d)
-    (sub_byte a) (sub_byte b) (sub_byte c) (sub_byte d) (substitute a ha) (substitute b hb) (substitute c hc) (substitute d hd))
+    is ∙ four_bytes (slice_index SUBSTITUTES a) (slice_index SUBSTITUTES b) (slice_index SUBSTITUTES c) (slice_index SUBSTITUTES d)
+    (sub_byte a) (sub_byte b) (sub_byte c) (sub_byte d) (substitute a ha) (substitute b hb) (substitute c hc) (substitute d hd)
 
 pub mixed_from : (a b c d x y z : ℕ) → a < 256 → b < 256 → c < 256 → d < 256
     → x ≡ rotate_right w32 (slice_index MIXED b) 8 → y ≡ rotate_right w32 (slice_index MIXED c) 16 → z ≡ rotate_right w32 (slice_index MIXED d) 24
@@ -84,13 +80,13 @@ last_round_from state key a b c d result m0 m1 m2 m3 ea eb ec ed h0 h1 h2 h3 sum
 
 -- ---- the expansion of a key
 
-pub key_from : (key last : List ℕ) (constant turned constant_word first second third fourth : ℕ) → constant < 256 → last ≡ to_be_bytes w32 (slice_index key 3)
+pub key_from : (key last : List ℕ) (constant turned constant_word first second third fourth : ℕ) → last ≡ to_be_bytes w32 (slice_index key 3)
     → to_be_bytes w32 turned ≡ sub_byte (slice_index last 1) ∷ sub_byte (slice_index last 2) ∷ sub_byte (slice_index last 3) ∷ sub_byte (slice_index last 0) ∷ []
-    → constant_word ≡ from_be_bytes w32 (constant ∷ 0 ∷ 0 ∷ 0 ∷ [])
+    → to_be_bytes w32 constant_word ≡ constant ∷ 0 ∷ 0 ∷ 0 ∷ []
     → first ≡ slice_index key 0 ⊕ (turned ⊕ constant_word) → second ≡ slice_index key 1 ⊕ first → third ≡ slice_index key 2 ⊕ second → fourth ≡ slice_index key 3 ⊕ third
     → bytes_of (first ∷ second ∷ third ∷ fourth ∷ []) ≡ next_key (bytes_of key) constant
 unfolding bytes_of next_key
-key_from key last constant turned constant_word first second third fourth fits el et ec e0 e1 e2 e3 =
+key_from key last constant turned constant_word first second third fourth el et constants e0 e1 e2 e3 =
     let k0 : ℕ = slice_index key 0 in
     let k1 : ℕ = slice_index key 1 in
     let k2 : ℕ = slice_index key 2 in
@@ -98,8 +94,6 @@ key_from key last constant turned constant_word first second third fourth fits e
     let ready : List ℕ = sub_byte (slice_index (word_bytes k3) 1) ∷ sub_byte (slice_index (word_bytes k3) 2) ∷ sub_byte (slice_index (word_bytes k3) 3) ∷ sub_byte (slice_index (word_bytes k3) 0) ∷ [] in
     let turns : word_bytes turned ≡ ready =
     et ∙ ap (λ (l : List ℕ). sub_byte (slice_index l 1) ∷ sub_byte (slice_index l 2) ∷ sub_byte (slice_index l 3) ∷ sub_byte (slice_index l 0) ∷ []) el in
-    let zeros : 0 < 256 = omega arith in
-    let constants : word_bytes constant_word ≡ constant ∷ 0 ∷ 0 ∷ 0 ∷ [] = word_from constant 0 0 0 constant_word fits zeros zeros zeros ec in
     let w0 : List ℕ = xor_bytes (word_bytes k0) (xor_bytes ready (constant ∷ 0 ∷ 0 ∷ 0 ∷ [])) in
     let w1 : List ℕ = xor_bytes (word_bytes k1) w0 in
     let w2 : List ℕ = xor_bytes (word_bytes k2) w1 in

@@ -1,5 +1,5 @@
 -- The tables, checked entry by entry.
-use Rattle.std.proofs.Common.{◌≡◌, ℕ, zero, suc, ◌<◌, Bool, true, ◌&&◌, eqb, ltb, List, [], ◌∷◌, slice_index, refl, sym, subst, ◌∙◌, inl, inr, eqb-true, ltb-true, arith}
+use Rattle.std.proofs.Common.{◌≡◌, ℕ, zero, suc, ◌<◌, Bool, true, ◌&&◌, eqb, List, [], ◌∷◌, slice_index, refl, sym, subst, ◌∙◌, inl, inr, eqb-true, arith}
 use Rattle.std.specs.Int.{w32, to_be_bytes, rotate_right}
 use Rattle.std.specs.Str.{bytes_eq}
 use Rattle.std.proofs.lemmas.Bool.{cases_lt, and_parts}
@@ -32,16 +32,6 @@ substitutes_checked = refl
 
 pub substitute : (b : ℕ) → b < 256 → slice_index SUBSTITUTES b ≡ sub_byte b
 substitute b below = eqb-true (slice_index SUBSTITUTES b) (sub_byte b) (passes is_substitute 256 b substitutes_checked below)
-
-abbrev is_byte : ℕ → Bool
-is_byte b = ltb (slice_index SUBSTITUTES b) 256
-
-bytes_checked : passes_below is_byte 256 ≡ true
-bytes_checked = refl
-
-pub sub_byte-below : (b : ℕ) → b < 256 → sub_byte b < 256
-sub_byte-below b below =
-    subst (λ (s : ℕ). s < 256) (substitute b below) (ltb-true (slice_index SUBSTITUTES b) 256 (passes is_byte 256 b bytes_checked below))
 
 -- ---- what a substitute adds to its column, by its row
 

@@ -10,7 +10,7 @@ use Rattle.aes_pad.specs.KeptKeys.{bytes_of}
 
 -- ---- parts that are equal
 
-four_bytes : (a b c d p q r s : ℕ) → a ≡ p → b ≡ q → c ≡ r → d ≡ s → a ∷ b ∷ c ∷ d ∷ [] ≡ p ∷ q ∷ r ∷ s ∷ []
+pub four_bytes : (a b c d p q r s : ℕ) → a ≡ p → b ≡ q → c ≡ r → d ≡ s → a ∷ b ∷ c ∷ d ∷ [] ≡ p ∷ q ∷ r ∷ s ∷ []
 four_bytes a b c d p q r s ea eb ec ed = rw (ea, eb, ec, ed) refl
 
 pub four_parts : (a b c d p q r s : List ℕ) → a ≡ p → b ≡ q → c ≡ r → d ≡ s → a ++ b ++ c ++ d ≡ p ++ q ++ r ++ s
@@ -59,17 +59,15 @@ listed zero i bytes long = sym (drop_of_length-le bytes (omega (arith, long)))
 listed (suc n) i bytes long =
     ap (λ (rest : List ℕ). slice_index bytes i ∷ rest) (listed n (suc i) bytes (omega (arith, long))) ∙ sym (drop-cons bytes i 0 (omega (arith, long)))
 
-pub words_from : (block : List ℕ) (w0 w1 w2 w3 : ℕ) → length block ≡ 16 → ((i : ℕ) → slice_index block i < 256)
-    → w0 ≡ from_be_bytes w32 (slice_index block 0 ∷ slice_index block 1 ∷ slice_index block 2 ∷ slice_index block 3 ∷ [])
-    → w1 ≡ from_be_bytes w32 (slice_index block 4 ∷ slice_index block 5 ∷ slice_index block 6 ∷ slice_index block 7 ∷ [])
-    → w2 ≡ from_be_bytes w32 (slice_index block 8 ∷ slice_index block 9 ∷ slice_index block 10 ∷ slice_index block 11 ∷ [])
-    → w3 ≡ from_be_bytes w32 (slice_index block 12 ∷ slice_index block 13 ∷ slice_index block 14 ∷ slice_index block 15 ∷ [])
+pub words_from : (block : List ℕ) (w0 w1 w2 w3 : ℕ) → length block ≡ 16
+    → to_be_bytes w32 w0 ≡ slice_index block 0 ∷ slice_index block 1 ∷ slice_index block 2 ∷ slice_index block 3 ∷ []
+    → to_be_bytes w32 w1 ≡ slice_index block 4 ∷ slice_index block 5 ∷ slice_index block 6 ∷ slice_index block 7 ∷ []
+    → to_be_bytes w32 w2 ≡ slice_index block 8 ∷ slice_index block 9 ∷ slice_index block 10 ∷ slice_index block 11 ∷ []
+    → to_be_bytes w32 w3 ≡ slice_index block 12 ∷ slice_index block 13 ∷ slice_index block 14 ∷ slice_index block 15 ∷ []
     → bytes_of (w0 ∷ w1 ∷ w2 ∷ w3 ∷ []) ≡ block
 unfolding bytes_of
-words_from block w0 w1 w2 w3 long fits e0 e1 e2 e3 =
-    four_parts _ _ _ _ _ _ _ _ (word_from _ _ _ _ w0 (fits 0) (fits 1) (fits 2) (fits 3) e0) (word_from _ _ _ _ w1 (fits 4) (fits 5) (fits 6) (fits 7) e1)
-    (word_from _ _ _ _ w2 (fits 8) (fits 9) (fits 10) (fits 11) e2) (word_from _ _ _ _ w3 (fits 12) (fits 13) (fits 14) (fits 15) e3)
-    ∙ listed 16 0 block long
+words_from block w0 w1 w2 w3 long e0 e1 e2 e3 =
+    four_parts (to_be_bytes w32 w0) (to_be_bytes w32 w1) (to_be_bytes w32 w2) (to_be_bytes w32 w3) _ _ _ _ e0 e1 e2 e3 ∙ listed 16 0 block long
 
 pub bytes_from : (words a b c d : List ℕ)
     → a ≡ to_be_bytes w32 (slice_index words 0) → b ≡ to_be_bytes w32 (slice_index words 1) → c ≡ to_be_bytes w32 (slice_index words 2) → d ≡ to_be_bytes w32 (slice_index words 3)

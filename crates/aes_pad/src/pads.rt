@@ -32,7 +32,7 @@ impl Aes {
         ensures value { result ≡ pad self.now number stamp }
     {
         let mut pad = [0; 64];
-        'blocks: for j in 0..4u32 {
+        'counters: for j in 0..4u32 {
             let block = self.encrypt(pad_input(number, stamp, j));
             put_block(&mut pad, 16 * j as usize, &block);
         }

@@ -7,16 +7,22 @@ ghost use Rattle.aes_pad.specs.KeptKeys.{bytes_of};
 
 use crate::tables::{MIXED, SUBSTITUTES};
 
+// The word of four bytes, the first one as the greatest.
+fn word_of(a: u8, b: u8, c: u8, d: u8) -> u32
+    ensures { to_be_bytes w32 result ≡ a ∷ b ∷ c ∷ d ∷ [] }
+{
+    u32::from_be_bytes([a, b, c, d])
+}
+
 /// Sixteen bytes as four words.
 pub(crate) fn words_of(block: &[u8; 16]) -> [u32; 4]
     ensures { bytes_of result ≡ block.now }
 {
-    [
-        u32::from_be_bytes([block[0], block[1], block[2], block[3]]),
-        u32::from_be_bytes([block[4], block[5], block[6], block[7]]),
-        u32::from_be_bytes([block[8], block[9], block[10], block[11]]),
-        u32::from_be_bytes([block[12], block[13], block[14], block[15]]),
-    ]
+    let first = word_of(block[0], block[1], block[2], block[3]);
+    let second = word_of(block[4], block[5], block[6], block[7]);
+    let third = word_of(block[8], block[9], block[10], block[11]);
+    let fourth = word_of(block[12], block[13], block[14], block[15]);
+    [first, second, third, fourth]
 }
 
 /// Four words as sixteen bytes.
@@ -49,12 +55,12 @@ pub(crate) fn sum_of(words: [u32; 4], others: [u32; 4]) -> [u32; 4]
 fn substituted_word(a: u8, b: u8, c: u8, d: u8) -> u32
     ensures { to_be_bytes w32 result ≡ sub_byte a ∷ sub_byte b ∷ sub_byte c ∷ sub_byte d ∷ [] }
 {
-    u32::from_be_bytes([
+    word_of(
         SUBSTITUTES[a as usize],
         SUBSTITUTES[b as usize],
         SUBSTITUTES[c as usize],
         SUBSTITUTES[d as usize],
-    ])
+    )
 }
 
 // The column of four bytes, each through the S-box, mixed.
@@ -103,7 +109,7 @@ pub(crate) fn next_key(key: [u32; 4], constant: u8) -> [u32; 4]
 {
     let last = key[3].to_be_bytes();
     let turned = substituted_word(last[1], last[2], last[3], last[0]);
-    let constant_word = u32::from_be_bytes([constant, 0, 0, 0]);
+    let constant_word = word_of(constant, 0, 0, 0);
     let first = key[0] ^ (turned ^ constant_word);
     let second = key[1] ^ first;
     let third = key[2] ^ second;

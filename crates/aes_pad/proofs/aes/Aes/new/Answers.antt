@@ -1,10 +1,10 @@
-use Rattle.std.proofs.Common.{◌+◌, refl, ap, ◌∙◌, length-set, arith, List, ℕ}
+use Rattle.std.proofs.Common.{◌+◌, refl, ap, ◌∙◌, length-set, replicate, arith, List, ℕ}
 use Rattle.aegis_num.specs.declared.storage.Key.{Key}
 use Rattle.aes_pad.proofs.RoundLemmas.{kept_at_first, kept_next, kept_first, kept_whole}
 use Rattle.aes_pad.proofs.aes.Aes.new.Goals as goal
 
 pub expansion-init : goal.expansion-init
-expansion-init c = (refl, kept_at_first _ c.args.key.now.0 c.words_of-keys.ensures)
+expansion-init c = (refl, kept_at_first (replicate 11 c.words_of-keys.result) c.args.key.now.0 c.words_of-keys.ensures)
 
 pub expansion-preserved : goal.expansion-preserved
 expansion-preserved c = (
