@@ -1,11 +1,11 @@
 -- The tables, checked entry by entry.
-use Rattle.std.proofs.Common.{◌≡◌, ℕ, zero, suc, ◌<◌, Bool, true, ◌&&◌, eqb, List, [], ◌∷◌, slice_index, refl, sym, subst, ◌∙◌, inl, inr, eqb-true, arith}
+use Rattle.std.proofs.Common.{◌≡◌, ℕ, zero, suc, ◌<◌, Bool, true, ◌&&◌, eqb, List, [], ◌∷◌, slice_index, refl, subst, inl, inr, eqb-true, arith}
 use Rattle.std.specs.Int.{w32, to_be_bytes, rotate_right}
 use Rattle.std.specs.Str.{bytes_eq}
 use Rattle.std.proofs.lemmas.Bool.{cases_lt, and_parts}
 use Rattle.std.proofs.lemmas.Slice.Eq.{bytes_eq-Decides}
 use Rattle.aes_pad.specs.declared.tables.TheConstants.{SUBSTITUTES, MIXED, ROUND_CONSTANTS}
-use Rattle.aes_pad.specs.Field.{xtimes, product_by_bits, product, inverse_below, sub_byte}
+use Rattle.aes_pad.specs.Field.{product_by_bits, product, inverse_below, sub_byte}
 use Rattle.aes_pad.specs.Cipher.{power_of_x}
 
 abbrev passes_below : (ℕ → Bool) → ℕ → Bool

@@ -1,4 +1,4 @@
-use Rattle.std.proofs.Common.{ap, arith, List, ℕ}
+use Rattle.std.proofs.Common.{ap, arith}
 use Rattle.aegis_num.specs.declared.storage.Key.{Key}
 use Rattle.aes_pad.specs.KeptKeys.{kept_key}
 use Rattle.aes_pad.proofs.RoundLemmas.{state_first, state_next, cipher_from}

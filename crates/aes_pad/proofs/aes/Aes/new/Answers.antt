@@ -1,5 +1,4 @@
 use Rattle.std.proofs.Common.{◌+◌, refl, ap, ◌∙◌, length-set, replicate, arith, List, ℕ}
-use Rattle.aegis_num.specs.declared.storage.Key.{Key}
 use Rattle.aes_pad.proofs.RoundLemmas.{kept_at_first, kept_next, kept_first, kept_whole}
 use Rattle.aes_pad.proofs.aes.Aes.new.Goals as goal
 
