@@ -41,10 +41,10 @@ joined m0 m1 m2 m3 p q r s h0 h1 h2 h3 = four_parts (word_bytes m0) (word_bytes 
 
 round_stepped : (state key a b c d : List ℕ) → a ≡ word_bytes (slice_index state 0) → b ≡ word_bytes (slice_index state 1) → c ≡ word_bytes (slice_index state 2) → d ≡ word_bytes (slice_index state 3)
     → xor_bytes (mixed (sub_byte (slice_index a 0)) (sub_byte (slice_index b 1)) (sub_byte (slice_index c 2)) (sub_byte (slice_index d 3))
-      ++ mixed (sub_byte (slice_index b 0)) (sub_byte (slice_index c 1)) (sub_byte (slice_index d 2)) (sub_byte (slice_index a 3))
-      ++ mixed (sub_byte (slice_index c 0)) (sub_byte (slice_index d 1)) (sub_byte (slice_index a 2)) (sub_byte (slice_index b 3))
-      ++ mixed (sub_byte (slice_index d 0)) (sub_byte (slice_index a 1)) (sub_byte (slice_index b 2)) (sub_byte (slice_index c 3))) (bytes_of key)
-      ≡ next_state (bytes_of state) (bytes_of key)
+    ++ mixed (sub_byte (slice_index b 0)) (sub_byte (slice_index c 1)) (sub_byte (slice_index d 2)) (sub_byte (slice_index a 3))
+    ++ mixed (sub_byte (slice_index c 0)) (sub_byte (slice_index d 1)) (sub_byte (slice_index a 2)) (sub_byte (slice_index b 3))
+    ++ mixed (sub_byte (slice_index d 0)) (sub_byte (slice_index a 1)) (sub_byte (slice_index b 2)) (sub_byte (slice_index c 3))) (bytes_of key)
+    ≡ next_state (bytes_of state) (bytes_of key)
 unfolding bytes_of next_state
 round_stepped state key a b c d ea eb ec ed = rw (ea, eb, ec, ed) refl
 
@@ -60,10 +60,10 @@ round_from state key a b c d result m0 m1 m2 m3 ea eb ec ed h0 h1 h2 h3 sum =
 
 last_stepped : (state key a b c d : List ℕ) → a ≡ word_bytes (slice_index state 0) → b ≡ word_bytes (slice_index state 1) → c ≡ word_bytes (slice_index state 2) → d ≡ word_bytes (slice_index state 3)
     → xor_bytes ((sub_byte (slice_index a 0) ∷ sub_byte (slice_index b 1) ∷ sub_byte (slice_index c 2) ∷ sub_byte (slice_index d 3) ∷ [])
-      ++ (sub_byte (slice_index b 0) ∷ sub_byte (slice_index c 1) ∷ sub_byte (slice_index d 2) ∷ sub_byte (slice_index a 3) ∷ [])
-      ++ (sub_byte (slice_index c 0) ∷ sub_byte (slice_index d 1) ∷ sub_byte (slice_index a 2) ∷ sub_byte (slice_index b 3) ∷ [])
-      ++ (sub_byte (slice_index d 0) ∷ sub_byte (slice_index a 1) ∷ sub_byte (slice_index b 2) ∷ sub_byte (slice_index c 3) ∷ [])) (bytes_of key)
-      ≡ last_state (bytes_of state) (bytes_of key)
+    ++ (sub_byte (slice_index b 0) ∷ sub_byte (slice_index c 1) ∷ sub_byte (slice_index d 2) ∷ sub_byte (slice_index a 3) ∷ [])
+    ++ (sub_byte (slice_index c 0) ∷ sub_byte (slice_index d 1) ∷ sub_byte (slice_index a 2) ∷ sub_byte (slice_index b 3) ∷ [])
+    ++ (sub_byte (slice_index d 0) ∷ sub_byte (slice_index a 1) ∷ sub_byte (slice_index b 2) ∷ sub_byte (slice_index c 3) ∷ [])) (bytes_of key)
+    ≡ last_state (bytes_of state) (bytes_of key)
 unfolding bytes_of last_state
 last_stepped state key a b c d ea eb ec ed = rw (ea, eb, ec, ed) refl
 
