@@ -12,5 +12,7 @@ pub mod CellsOfFunctions
 pub mod Fitting
 pub mod Variables
 pub mod Names
+pub mod Starting
 pub mod Whole
+pub mod Sizing
 mod Worked

@@ -24,6 +24,7 @@ use Rattle.lowering.proofs.Programs.{frame_of, CanCallAll, FitsNext, FunctionsFi
 use Rattle.lowering.proofs.CellsOfFunctions.{world, cells_before, frame-fits, functions-stand, entry-stands}
 use Rattle.lowering.proofs.Fitting.{stmt-fits, loops-nest, stmt-room, private-at}
 use Rattle.lowering.proofs.Names.{Stands, names-fit, own-var, own-writable}
+use Rattle.lowering.proofs.Starting.{starts-plainly}
 
 among-front : (xs ys : List ℕ) (token : ℕ) → is_among xs token ≡ true → is_among (xs ++ ys) token ≡ true
 among-front [] ys token e = absurd (grind (arith, e))
@@ -125,10 +126,12 @@ no-end-is-stuck source.Turns e = cc
 pub is-lowered : (is_loose : Class → Bool) (p : Program) → IsShaped p → is_loose Verified ≡ false → is_loose Private ≡ false → Starts p → IsLowered is_loose p
 is-lowered is_loose p shaped verified private starts =
     let means : MeansAs is_loose p (lowered p) (source_element p) = lowered-means is_loose p shaped verified private starts in
-    record { meaning = means; runs = λ input loose steps at e. no-end-is-stuck _ (means.ended input loose steps Stuck at e).ending }
+    record { starts = starts; meaning = means; runs = λ input loose steps at e. no-end-is-stuck _ (means.ended input loose steps Stuck at e).ending }
 
 pub lowers : Lowers
-lowers p shaped starts = (is-lowered shared_and_logged_loose p shaped refl refl starts, is-lowered shared_loose p shaped refl refl starts)
+lowers p shaped plainly =
+    let starts : Starts p = starts-plainly p shaped.objects plainly in
+    (is-lowered shared_and_logged_loose p shaped refl refl starts, is-lowered shared_loose p shaped refl refl starts)
 
 pub names-reach : NamesReach
 names-reach p e = ap (λ (t : ℕ). let x : Element = record { variable = t; index = e.index } in x) (back-home (owners_of p) e.variable)

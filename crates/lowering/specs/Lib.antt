@@ -1,3 +1,4 @@
 pub mod Cells
 pub mod Lowering
 pub mod LoweringLaws
+pub mod Sizes

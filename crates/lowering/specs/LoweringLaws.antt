@@ -1,11 +1,12 @@
 -- Promise: what it means that flat code does what a program means.
 use Rattle.regions.specs.LooseClasses.{shared_loose, shared_and_logged_loose}
-use Rattle.std.specs.Prelude.{◌≡◌, ◌≢◌, ℕ, ◌+◌, ◌*◌, ◌≤◌, Bool, List, map, Option, Some, None}
+use Rattle.std.specs.Prelude.{◌≡◌, ◌≢◌, ℕ, ◌+◌, ◌*◌, ◌≤◌, Bool, List, [], ◌∷◌, map, Option, Some, None}
 use Rattle.execution.specs.Run.{Stops, state_of}
 use Rattle.execution.specs.Traffic.{Element, Entry, Extends}
 use Rattle.execution.specs.Naming.{entry_named, traffic_named}
 use Rattle.regions.specs.declared.rights.Class.{Class}
-use Rattle.c_semantics.specs.ResolvedTree.{Program}
+use Rattle.regions.specs.declared.rights.Class.TheVariants.{Constant}
+use Rattle.c_semantics.specs.ResolvedTree.{Object, Program}
 use Rattle.c_semantics.specs.States as source
 use Rattle.c_semantics.specs.Meaning.{Meaning, first_memory, mean, noting_all}
 use Rattle.c_semantics.specs.ProgramShape.{IsShaped}
@@ -50,19 +51,29 @@ pub record MeansAs (is_loose : Class → Bool) (p : Program) (ir : Ir) (name : E
   pub ended : (input : List ℕ) (loose : List (Entry Element)) (steps : ℕ) (end : FlatEnd) (at : FlatState) → flat_run is_loose ir input loose steps ≡ Stops end at →
       EndsLike name (mean (noting_all is_loose) p input (map (entry_named name) loose) (64 * (at.jumps + 1))) end at
 
+-- an object that is no constant starts with no words of its own
+abbrev pub StartsWith : Option Class → List ℕ → Type 0
+StartsWith (Some Constant) first = Unit {0}
+StartsWith class first = first ≡ []
+
+abbrev pub StartPlainly : List Object → Type 0
+StartPlainly [] = Unit {0}
+StartPlainly (o ∷ os) = StartsWith o.variable.class o.first × StartPlainly os
+
 -- what the cells of variables hold before the first operation is what the variables hold
 abbrev pub Starts : Program → Type 0
 Starts p = (t i : ℕ) → first_cells (lowered p) (home_of p t) i ≡ Word (first_memory p.objects t i)
 
--- What is proved of the flat code of a program of the right shape whose cells start as its variables do, with these classes loose:
+-- What is proved of the flat code of a program of the right shape, with these classes loose: its cells start as the variables do,
 -- it does what the program means, and is never stuck.
 pub record IsLowered (is_loose : Class → Bool) (p : Program) : Type 0 where
+  pub starts : Starts p
   pub meaning : MeansAs is_loose p (lowered p) (source_element p)
   pub runs : IsNeverStuck is_loose (lowered p)
 
 -- with shared and logged words loose, and with shared words alone
 abbrev pub Lowers : Type 0
-Lowers = (p : Program) → IsShaped p → Starts p → IsLowered shared_and_logged_loose p × IsLowered shared_loose p
+Lowers = (p : Program) → IsShaped p → StartPlainly p.objects → IsLowered shared_and_logged_loose p × IsLowered shared_loose p
 
 -- the names of cells reach each element of the source, by its own cell
 abbrev pub NamesReach : Type 0

@@ -1,5 +1,6 @@
 //! Laws of lowered programs.
 ghost use Rattle.lowering.specs.LoweringLaws.{Lowers, NamesReach};
+ghost use Rattle.lowering.specs.Sizes.{SizesFollow};
 
 /// The flat code of a program of the right shape, whose cells start as its variables do, does what the program means, with
 /// shared and logged words loose and with shared words alone: it comes to the same end with the same bytes, writes and counts,
@@ -8,4 +9,11 @@ ghost use Rattle.lowering.specs.LoweringLaws.{Lowers, NamesReach};
 pub fn lowered_code_means_the_source()
     ensures meaning { Lowers }
     ensures names { NamesReach }
+{}
+
+/// The flat code of a program has for each of its nodes at most 64 units of weight, at most 64 operations and at most two
+/// cells of one word for links and temporaries, and 64 units and operations more. Each other cell is for a declared
+/// variable.
+pub fn lowered_code_is_small()
+    ensures sizes { SizesFollow }
 {}
