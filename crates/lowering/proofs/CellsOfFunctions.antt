@@ -13,6 +13,7 @@ use Rattle.ir_code.specs.declared.code.Cell.{Cell}
 use Rattle.ir_code.specs.declared.ops.Op.TheVariants as op
 use Rattle.ir_code.specs.FlatStates.{words_in, class_in, mode_of, is_shared}
 use Rattle.lowering.specs.Cells.{room_in, class_for, words, cell_count, function_cells, object_cells, cells_of, nobody, owners_in, owners_of, home_in, home_of, is_declared, token_of}
+use Rattle.lowering.specs.CellLaws.{cells_before}
 use Rattle.lowering.specs.Lowering.{calling_by, is_private_in, all_functions, entry_code, lowered}
 use Rattle.lowering.proofs.Relation.{World, IsTemp, FitsFrame, Spans}
 use Rattle.lowering.proofs.Homes.{back-home, found, beyond, Found}
@@ -68,11 +69,6 @@ length-nobody (suc n) = ap suc (length-nobody n)
 length-map-some : (xs : List ℕ) → length (map Some xs) ≡ length xs
 length-map-some [] = refl
 length-map-some (x ∷ xs) = ap suc (length-map-some xs)
-
--- how many cells functions have in all
-abbrev pub cells_before : List Function → ℕ
-cells_before [] = 0
-cells_before (f ∷ fs) = cell_count f + cells_before fs
 
 length-function-cells : (fs : List Function) → length (function_cells fs) ≡ cells_before fs
 length-function-cells [] = refl

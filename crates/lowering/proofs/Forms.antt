@@ -64,7 +64,7 @@ module _ {R : Rules} where
   good-unary h k = record { targets = (h, tt); sources = (k, tt); loaded = tt; stored = tt; links = tt; goes = tt; slots = tt }
 
   good-binary : {operator : BinaryOp} {to a b : ℕ} → R.written to ≡ true → R.read a ≡ true → R.read b ≡ true → GoodOp R (op.Binary operator to a b)
-  good-binary h k l = record { targets = (h, tt); sources = (k, l, tt); loaded = tt; stored = tt; links = tt; goes = tt; slots = tt }
+  good-binary h k l = record { targets = (h, tt); sources = (k, (l, tt)); loaded = tt; stored = tt; links = tt; goes = tt; slots = tt }
 
   good-test : {a length token : ℕ} → R.read a ≡ true → GoodOp R (op.Test a length token)
   good-test h = record { targets = tt; sources = (h, tt); loaded = tt; stored = tt; links = tt; goes = tt; slots = tt }
@@ -76,7 +76,7 @@ module _ {R : Rules} where
   good-load h k l = record { targets = (h, tt); sources = (k, tt); loaded = (l, tt); stored = tt; links = tt; goes = tt; slots = tt }
 
   good-store : {array index from : ℕ} → R.read index ≡ true → R.read from ≡ true → R.stored array ≡ true → GoodOp R (op.Store array index from)
-  good-store h k l = record { targets = tt; sources = (h, k, tt); loaded = tt; stored = (l, tt); links = tt; goes = tt; slots = tt }
+  good-store h k l = record { targets = tt; sources = (h, (k, tt)); loaded = tt; stored = (l, tt); links = tt; goes = tt; slots = tt }
 
   good-label : {l : ℕ} → GoodOp R (op.Label l)
   good-label = record { targets = tt; sources = tt; loaded = tt; stored = tt; links = tt; goes = tt; slots = tt }
@@ -123,7 +123,7 @@ module _ {R : Rules} where
   good-set-mode : {private : Bool} → GoodOp R (op.SetMode private)
   good-set-mode = record { targets = tt; sources = tt; loaded = tt; stored = tt; links = tt; goes = tt; slots = tt }
 
-  good-exit : GoodOp R (op.Exit)
+  pub good-exit : GoodOp R (op.Exit)
   good-exit = record { targets = tt; sources = tt; loaded = tt; stored = tt; links = tt; goes = tt; slots = tt }
 
 -- what the names in the code of a function come to
@@ -148,11 +148,11 @@ pub record ExitsGood (R : Rules) (exits : Exits) : Type 0 where
   pub continued : R.reached exits.continued ≡ true
   pub returned : R.reached exits.returned ≡ true
 
-good-calling : (R : Rules) (caller callee : Bool) (function : ℕ) → R.reached function ≡ true → AllGood R (calling_by caller callee function)
+pub good-calling : (R : Rules) (caller callee : Bool) (function : ℕ) → R.reached function ≡ true → AllGood R (calling_by caller callee function)
 good-calling R true true function h = (good-call h, tt)
 good-calling R false false function h = (good-call h, tt)
-good-calling R true false function h = (good-set-mode, good-call h, good-set-mode, tt)
-good-calling R false true function h = (good-set-mode, good-call h, good-set-mode, tt)
+good-calling R true false function h = (good-set-mode, (good-call h, (good-set-mode, tt)))
+good-calling R false true function h = (good-set-mode, (good-call h, (good-set-mode, tt)))
 
 good-testing : (R : Rules) (operator : BinaryOp) (r at : ℕ) → R.read r ≡ true → AllGood R (testing_divisor operator r at)
 good-testing R operator r at h = go (is_division operator)
@@ -186,7 +186,7 @@ module _ (R : Rules) (scope : Scope) (around : Around) (link top total : ℕ) (g
     value-good (Indexed at x length index) r label room high labels h =
         let low : link < r = omega (arith, room, room-positive index) in
         good-append R (value_code scope r label index) _ (value-good index r label room high labels h.1)
-            (good-test (g.read r low high), good-load (g.written r low high) (g.read r low high) (g.names.array x length h.0), tt)
+            (good-test (g.read r low high), (good-load (g.written r low high) (g.read r low high) (g.names.array x length h.0), tt))
     value-good (Called function arguments) r label room high labels h =
         let low : link < r = omega (arith, room, room-of-all-positive arguments) in
         let can : (R.reached function ≡ true) × (argument_count arguments ≤ 6) = g.names.callable function (argument_count arguments) h.0 in
@@ -211,13 +211,12 @@ module _ (R : Rules) (scope : Scope) (around : Around) (link top total : ℕ) (g
         good-append R (value_code scope r (label + 1) left) _ (value-good left r (label + 1) (omega (arith, room)) high (omega (arith, labels)) h.0)
             (good-jump-zero (g.read r low high) (g.reached label (omega (arith, labels))),
             good-append R (value_code scope r (label + 1 + labels_in left) right) _ (value-good right r (label + 1 + labels_in left) (omega (arith, room)) high (omega (arith, labels)) h.1)
-                (good-unary (g.written r low high) (g.read r low high), good-unary (g.written r low high) (g.read r low high), good-label, tt))
+                (good-unary (g.written r low high) (g.read r low high), (good-unary (g.written r low high) (g.read r low high), (good-label, tt))))
     value-good (Either left right) r label room high labels h =
         let low : link < r = omega (arith, room, room-positive left) in
         good-append R (value_code scope r (label + 1) left) _ (value-good left r (label + 1) (omega (arith, room)) high (omega (arith, labels)) h.0)
-            (good-unary (g.written r low high) (g.read r low high), good-jump-zero (g.read r low high) (g.reached label (omega (arith, labels))),
-            good-append R (value_code scope r (label + 1 + labels_in left) right) _ (value-good right r (label + 1 + labels_in left) (omega (arith, room)) high (omega (arith, labels)) h.1)
-                (good-unary (g.written r low high) (g.read r low high), good-label, good-unary (g.written r low high) (g.read r low high), tt))
+            (good-unary (g.written r low high) (g.read r low high), (good-jump-zero (g.read r low high) (g.reached label (omega (arith, labels))), good-append R (value_code scope r (label + 1 + labels_in left) right) _ (value-good right r (label + 1 + labels_in left) (omega (arith, room)) high (omega (arith, labels)) h.1)
+                (good-unary (g.written r low high) (g.read r low high), (good-label, (good-unary (g.written r low high) (g.read r low high), tt)))))
 
     values-good : (arguments : Arguments) (r label : ℕ) → link + room_of_all arguments ≤ r → r ≤ top → label + labels_in_all arguments ≤ total → ArgumentsAgree around arguments → AllGood R (values_code scope r label arguments)
     values-good NoArguments r label room high labels h = tt
@@ -268,10 +267,9 @@ module _ (R : Rules) (scope : Scope) (around : Around) (link top total : ℕ) (g
       good-append R (value_code scope r (label + 2) test) _ (value-good test r (label + 2) (omega (arith, room)) high (omega (arith, labels)) h.0)
           (good-jump-zero (g.read r low high) (g.reached label (omega (arith, labels))),
           good-append R (statement_code scope exits r (label + 2 + labels_in test) body) _ (statement-good body exits r (label + 2 + labels_in test) x (omega (arith, room)) low high (omega (arith, labels)) h.1)
-              (good-jump (g.reached (label + 1) (omega (arith, labels))), good-label,
-              good-append R (statement_code scope exits r (label + 2 + labels_in test + labels_within body) other) _
+              (good-jump (g.reached (label + 1) (omega (arith, labels))), (good-label, good-append R (statement_code scope exits r (label + 2 + labels_in test + labels_within body) other) _
                   (statement-good other exits r (label + 2 + labels_in test + labels_within body) x (omega (arith, room)) low high (omega (arith, labels)) h.2)
-                  (good-label, tt)))
+                  (good-label, tt))))
   statement-good (While test body) exits r label x room low high labels h =
       let start : R.reached label ≡ true = g.reached label (omega (arith, labels)) in
       let end : R.reached (label + 1) ≡ true = g.reached (label + 1) (omega (arith, labels)) in
@@ -280,7 +278,7 @@ module _ (R : Rules) (scope : Scope) (around : Around) (link top total : ℕ) (g
           (good-jump-zero (g.read r low high) end,
           good-append R (statement_code scope (record exits { broken = label + 1; continued = label }) r (label + 2 + labels_in test) body) _
               (statement-good body (record exits { broken = label + 1; continued = label }) r (label + 2 + labels_in test) (record { broken = end; continued = start; returned = x.returned }) (omega (arith, room)) low high (omega (arith, labels)) h.1)
-              (good-jump start, good-label, tt)))
+              (good-jump start, (good-label, tt))))
   statement-good (For first test step body) exits r label x room low high labels h =
       let start : R.reached label ≡ true = g.reached label (omega (arith, labels)) in
       let next : R.reached (label + 1) ≡ true = g.reached (label + 1) (omega (arith, labels)) in
@@ -295,7 +293,7 @@ module _ (R : Rules) (scope : Scope) (around : Around) (link top total : ℕ) (g
                   (good-label,
                   good-append R (statement_code scope heads r (label + 3 + labels_within first + labels_in_part test + labels_within body) step) _
                       (statement-good step heads r (label + 3 + labels_within first + labels_in_part test + labels_within body) (record { broken = start; continued = start; returned = start }) (omega (arith, room)) low high (omega (arith, labels)) h.2)
-                      (good-jump start, good-label, tt))))
+                      (good-jump start, (good-label, tt)))))
     where
       heads : Exits
       heads = record { broken = label; continued = label; returned = label }
@@ -324,4 +322,4 @@ module _ (R : Rules) (scope : Scope) (around : Around) (link top total : ℕ) (g
           (good-save-link g.linked,
           good-append R (statement_code scope (record { broken = label + 1; continued = label + 1; returned = label }) last (label + 2) f.body) _
               (statement-good f.body (record { broken = label + 1; continued = label + 1; returned = label }) last (label + 2) (record { broken = over; continued = over; returned = done }) (omega arith) low high (omega (arith, labels)) h)
-              (good-label, good-const (g.written last low high), good-label, good-set-result (g.read last low high), good-return g.linked, tt)))
+              (good-label, (good-const (g.written last low high), (good-label, (good-set-result (g.read last low high), (good-return g.linked, tt)))))))

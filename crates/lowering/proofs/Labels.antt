@@ -241,7 +241,7 @@ functions-labels (f ∷ fs) home is_private number cell label l =
     many-append l (function_code (record { home = home; is_private = is_private; private = f.private }) number (cell + length (own_tokens f)) label f) (functions_code home is_private (number + 1) (cell + cell_count f) (label + labels_of_function f) fs) in
     omega (arith, e, next, h, k, s, t)
 
-below-zero : (l : ℕ) → below l 0 ≡ 0
+pub below-zero : (l : ℕ) → below l 0 ≡ 0
 below-zero l = grind (arith, nat_tests)
 
 below-least : (l x : ℕ) → below l x ≤ 1

@@ -12,7 +12,10 @@ pub mod CellsOfFunctions
 pub mod Fitting
 pub mod Variables
 pub mod Names
+pub mod Listed
 pub mod Starting
 pub mod Whole
 pub mod Sizing
+pub mod Forms
+pub mod Formed
 mod Worked

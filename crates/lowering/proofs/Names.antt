@@ -17,7 +17,8 @@ use Rattle.lowering.proofs.Calling.{CallableFrom}
 use Rattle.lowering.proofs.Statements.{IsTarget}
 use Rattle.lowering.proofs.Programs.{frame_of, CanCallAll}
 use Rattle.lowering.proofs.Homes.{known, declared-at}
-use Rattle.lowering.proofs.CellsOfFunctions.{world, cells_before, cell-at}
+use Rattle.lowering.specs.CellLaws.{cells_before}
+use Rattle.lowering.proofs.CellsOfFunctions.{world, cell-at}
 use Rattle.lowering.proofs.Variables.{Placed, placed, own-home, ObjectAt, object-place, object-home, object-cell-at, object-owner, program-once}
 use Rattle.lowering.proofs.Fitting.{NamesFit}
 

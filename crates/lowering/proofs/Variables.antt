@@ -8,7 +8,8 @@ use Rattle.c_semantics.specs.ResolvedTree.{Function, Object, Program}
 use Rattle.ir_code.specs.declared.code.Cell.{Cell}
 use Rattle.lowering.specs.Cells.{room_in, nobody, owners_in, owners_of, home_in, home_of, object_cell, object_cells, function_cells, cells_of}
 use Rattle.lowering.proofs.Homes.{Found, found, StandsOnce, declared-at}
-use Rattle.lowering.proofs.CellsOfFunctions.{cells_before, length-owners, owners-of-two, length-object-owners}
+use Rattle.lowering.specs.CellLaws.{cells_before}
+use Rattle.lowering.proofs.CellsOfFunctions.{length-owners, owners-of-two, length-object-owners}
 use Rattle.lowering.proofs.Standing.{front-on}
 
 -- the tokens of the cells that some variable owns
@@ -93,7 +94,7 @@ home-is owners place token once e =
 
 -- ---- variables of a function
 
-front-get : {A : Type 0} → (xs ys : List A) (i : ℕ) (y : A) → slice_get xs i ≡ Some y → slice_get (xs ++ ys) i ≡ Some y
+pub front-get : {A : Type 0} → (xs ys : List A) (i : ℕ) (y : A) → slice_get xs i ≡ Some y → slice_get (xs ++ ys) i ≡ Some y
 front-get [] ys i y e = absurd (grind (arith, e))
 front-get (x ∷ xs) ys zero y e = e
 front-get (x ∷ xs) ys (suc i) y e = front-get xs ys i y e

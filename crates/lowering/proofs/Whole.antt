@@ -21,12 +21,13 @@ use Rattle.lowering.proofs.Expressions.{Env}
 use Rattle.lowering.proofs.Statements.{IsTarget, loops_in}
 use Rattle.lowering.proofs.Functions.{FunctionFits, ParametersFit}
 use Rattle.lowering.proofs.Programs.{frame_of, CanCallAll, FitsNext, FunctionsFit, Laid, means-as}
-use Rattle.lowering.proofs.CellsOfFunctions.{world, cells_before, frame-fits, functions-stand, entry-stands}
+use Rattle.lowering.specs.CellLaws.{cells_before}
+use Rattle.lowering.proofs.CellsOfFunctions.{world, frame-fits, functions-stand, entry-stands}
 use Rattle.lowering.proofs.Fitting.{stmt-fits, loops-nest, stmt-room, private-at}
 use Rattle.lowering.proofs.Names.{Stands, names-fit, own-var, own-writable}
 use Rattle.lowering.proofs.Starting.{starts-plainly}
 
-among-front : (xs ys : List ℕ) (token : ℕ) → is_among xs token ≡ true → is_among (xs ++ ys) token ≡ true
+pub among-front : (xs ys : List ℕ) (token : ℕ) → is_among xs token ≡ true → is_among (xs ++ ys) token ≡ true
 among-front [] ys token e = absurd (grind (arith, e))
 among-front (x ∷ xs) ys token e = go (x == token) e (λ h. among-front xs ys token h)
   where

@@ -1,6 +1,6 @@
 -- Promise: what it means that flat code does what a program means.
 use Rattle.regions.specs.LooseClasses.{shared_loose, shared_and_logged_loose}
-use Rattle.std.specs.Prelude.{◌≡◌, ◌≢◌, ℕ, ◌+◌, ◌*◌, ◌≤◌, Bool, List, [], ◌∷◌, map, Option, Some, None}
+use Rattle.std.specs.Prelude.{◌≡◌, ◌≢◌, ℕ, ◌+◌, ◌*◌, ◌^◌, ◌<◌, ◌≤◌, Bool, List, [], ◌∷◌, length, map, Option, Some, None}
 use Rattle.execution.specs.Run.{Stops, state_of}
 use Rattle.execution.specs.Traffic.{Element, Entry, Extends}
 use Rattle.execution.specs.Naming.{entry_named, traffic_named}
@@ -9,10 +9,11 @@ use Rattle.regions.specs.declared.rights.Class.TheVariants.{Constant}
 use Rattle.c_semantics.specs.ResolvedTree.{Object, Program}
 use Rattle.c_semantics.specs.States as source
 use Rattle.c_semantics.specs.Meaning.{Meaning, first_memory, mean, noting_all}
+use Rattle.c_semantics.specs.Nodes.{nodes}
 use Rattle.c_semantics.specs.ProgramShape.{IsShaped}
 use Rattle.ir_code.specs.declared.code.Ir.{Ir}
 use Rattle.ir_code.specs.FlatStates.{FlatState, FlatEnd, Ended, Index, Divide, Starved, Word, first_cells}
-use Rattle.ir_code.specs.Lawful.{IsNeverStuck}
+use Rattle.ir_code.specs.Lawful.{IsNeverStuck, IsLawful}
 use Rattle.lowering.specs.Cells.{home_of, source_element, cell_element}
 use Rattle.lowering.specs.Lowering.{lowered}
 use Rattle.ir_code.specs.FlatMeaning.{flat_run}
@@ -74,6 +75,15 @@ pub record IsLowered (is_loose : Class → Bool) (p : Program) : Type 0 where
 -- with shared and logged words loose, and with shared words alone
 abbrev pub Lowers : Type 0
 Lowers = (p : Program) → IsShaped p → StartPlainly p.objects → IsLowered shared_and_logged_loose p × IsLowered shared_loose p
+
+-- So few nodes and objects as each source within the limits has.
+pub record IsSmall (p : Program) : Type 0 where
+  pub nodes : nodes p < 2 ^ 20
+  pub objects : length p.objects < 2 ^ 20
+
+-- The flat code of a small program of the right shape is lawful, with shared and logged words loose and with shared words alone.
+abbrev pub LoweredIsLawful : Type 0
+LoweredIsLawful = (p : Program) → IsShaped p → StartPlainly p.objects → IsSmall p → IsLawful shared_and_logged_loose (lowered p) × IsLawful shared_loose (lowered p)
 
 -- the names of cells reach each element of the source, by its own cell
 abbrev pub NamesReach : Type 0

@@ -1,5 +1,6 @@
 //! Laws of lowered programs.
-ghost use Rattle.lowering.specs.LoweringLaws.{Lowers, NamesReach};
+ghost use Rattle.lowering.specs.CellLaws.{CellsAreListed, PrivateIsGuarded};
+ghost use Rattle.lowering.specs.LoweringLaws.{LoweredIsLawful, Lowers, NamesReach};
 ghost use Rattle.lowering.specs.Sizes.{SizesFollow};
 
 /// The flat code of a program of the right shape, whose cells start as its variables do, does what the program means, with
@@ -16,4 +17,18 @@ pub fn lowered_code_means_the_source()
 /// variable.
 pub fn lowered_code_is_small()
     ensures sizes { SizesFollow }
+{}
+
+/// The flat code of a program of the right shape with fewer than 1,048,576 nodes and objects keeps the rules of form, and no
+/// run of it is stuck, with shared and logged words loose and with shared words alone.
+pub fn lowered_code_is_lawful()
+    ensures lawful { LoweredIsLawful }
+{}
+
+/// The first cells are the objects, in order. For each function in order come its parameters, its locals, its link and its
+/// temporaries, which are private where the function is. A run that touches a private cell outside the private mode is stuck,
+/// and lowered code never is.
+pub fn cells_are_as_listed()
+    ensures cells { CellsAreListed }
+    ensures private { PrivateIsGuarded }
 {}
