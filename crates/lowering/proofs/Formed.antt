@@ -380,7 +380,7 @@ module _ (p : Program) (shaped : IsShaped p) (before after : List Function) (f :
   link-linked =
       let cell : slice_get (cells_of p) (length p.objects + cells_before before + length (own_tokens f)) ≡ Some (record { class = class_for f.private; words = 1; first = [] }) = cell-at p before after f (length (own_tokens f)) e (omega arith) in
       both (ap (λ (o : Option Cell). words_in o == 1) cell)
-          (both (ap (λ (o : Option Cell). keeps_links (class_in o)) cell ∙ kept f.private) (ap holds (link-kind p before after f e)))
+      (both (ap (λ (o : Option Cell). keeps_links (class_in o)) cell ∙ kept f.private) (ap holds (link-kind p before after f e)))
     where
       kept : (t : Bool) → keeps_links (class_for t) ≡ true
       kept true = refl
@@ -410,12 +410,12 @@ functions-good : (p : Program) (shaped : IsShaped p) (before fs : List Function)
 functions-good p shaped before [] number cell label e c l h = tt
 functions-good p shaped before (f ∷ fs) number cell label e c l h =
     good-append (rules p) (function_code scope number (cell + length (own_tokens f)) label f) _
-        (subst (λ (x : ℕ). AllGood (rules p) (function_code scope number (x + length (own_tokens f)) label f)) (sym c)
-        (function-good (rules p) scope (around_of p.objects before f) (length p.objects + cells_before before + length (own_tokens f)) (length p.objects + cells_before before + length (own_tokens f) + room_in f.body) (total_of p)
-        (ground p shaped before fs f e scope refl) f number label refl (stmt-room f.body) within h.0.parameters h.0.unclassed
-        (λ token x. among-front (map (λ (y : Variable). y.token) f.parameters) (locals_of f.body) token x) h.0.names))
-        (functions-good p shaped (before ++ f ∷ []) fs (number + 1) (cell + cell_count f) (label + labels_of_function f) (e ∙ sym (append_assoc before (f ∷ []) fs)) (omega (arith, c, cells-two before f))
-        (omega (arith, l, labels-two before (f ∷ []))) h.1)
+    (subst (λ (x : ℕ). AllGood (rules p) (function_code scope number (x + length (own_tokens f)) label f)) (sym c)
+    (function-good (rules p) scope (around_of p.objects before f) (length p.objects + cells_before before + length (own_tokens f)) (length p.objects + cells_before before + length (own_tokens f) + room_in f.body) (total_of p)
+    (ground p shaped before fs f e scope refl) f number label refl (stmt-room f.body) within h.0.parameters h.0.unclassed
+    (λ token x. among-front (map (λ (y : Variable). y.token) f.parameters) (locals_of f.body) token x) h.0.names))
+    (functions-good p shaped (before ++ f ∷ []) fs (number + 1) (cell + cell_count f) (label + labels_of_function f) (e ∙ sym (append_assoc before (f ∷ []) fs)) (omega (arith, c, cells-two before f))
+    (omega (arith, l, labels-two before (f ∷ []))) h.1)
   where
     scope : Scope
     scope = record { home = home_of p; is_private = is_private_in p.functions; private = f.private }
@@ -429,9 +429,9 @@ program-good : (p : Program) → IsShaped p → AllGood (rules p) (lowered p).op
 program-good p shaped =
     let low : p.main < length p.functions = slice_get_within p.functions p.main shaped.main.main shaped.main.stands in
     good-append (rules p) (all_functions p) (entry_code p)
-        (functions-good p shaped [] p.functions 0 (length p.objects) (length p.functions) refl (omega arith) (omega arith) shaped.functions)
-        (good-append (rules p) (calling_by false (is_private_in p.functions p.main) p.main) (op.Exit ∷ [])
-        (good-calling (rules p) false (is_private_in p.functions p.main) p.main (below-holds p.main (total_of p) (omega (arith, low)))) (good-exit, tt))
+    (functions-good p shaped [] p.functions 0 (length p.objects) (length p.functions) refl (omega arith) (omega arith) shaped.functions)
+    (good-append (rules p) (calling_by false (is_private_in p.functions p.main) p.main) (op.Exit ∷ [])
+    (good-calling (rules p) false (is_private_in p.functions p.main) p.main (below-holds p.main (total_of p) (omega (arith, low)))) (good-exit, tt))
 
 -- ---- cells
 

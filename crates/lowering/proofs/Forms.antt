@@ -186,14 +186,14 @@ module _ (R : Rules) (scope : Scope) (around : Around) (link top total : ℕ) (g
     value-good (Indexed at x length index) r label room high labels h =
         let low : link < r = omega (arith, room, room-positive index) in
         good-append R (value_code scope r label index) _ (value-good index r label room high labels h.1)
-            (good-test (g.read r low high), (good-load (g.written r low high) (g.read r low high) (g.names.array x length h.0), tt))
+        (good-test (g.read r low high), (good-load (g.written r low high) (g.read r low high) (g.names.array x length h.0), tt))
     value-good (Called function arguments) r label room high labels h =
         let low : link < r = omega (arith, room, room-of-all-positive arguments) in
         let can : (R.reached function ≡ true) × (argument_count arguments ≤ 6) = g.names.callable function (argument_count arguments) h.0 in
         good-append R (values_code scope r label arguments) _ (values-good arguments r label room high labels h.1)
-            (good-append R (passing 0 r arguments) _ (passing-good arguments 0 r (omega (arith, can.1)) room high)
-                (good-append R (calling_by scope.private (scope.is_private function) function) _ (good-calling R scope.private (scope.is_private function) function can.0)
-                    (good-result (g.written r low high), tt)))
+        (good-append R (passing 0 r arguments) _ (passing-good arguments 0 r (omega (arith, can.1)) room high)
+        (good-append R (calling_by scope.private (scope.is_private function) function) _ (good-calling R scope.private (scope.is_private function) function can.0)
+        (good-result (g.written r low high), tt)))
     value-good Input r label room high labels h = (good-input (g.written r (omega (arith, room)) high), tt)
     value-good (Unary operator inner) r label room high labels h =
         let low : link < r = omega (arith, room, room-positive inner) in
@@ -203,26 +203,32 @@ module _ (R : Rules) (scope : Scope) (around : Around) (link top total : ℕ) (g
         let lower : link < r - 1 = omega (arith, room, room-positive right) in
         let under : r - 1 ≤ top = omega (arith, high) in
         good-append R (value_code scope r label left) _ (value-good left r label (omega (arith, room)) high (omega (arith, labels)) h.0)
-            (good-append R (value_code scope (r - 1) (label + labels_in left) right) _ (value-good right (r - 1) (label + labels_in left) (omega (arith, room)) under (omega (arith, labels)) h.1)
-                (good-append R (testing_divisor operator (r - 1) at) _ (good-testing R operator (r - 1) at (g.read (r - 1) lower under))
-                    (good-binary (g.written r low high) (g.read r low high) (g.read (r - 1) lower under), tt)))
+        (good-append R (value_code scope (r - 1) (label + labels_in left) right) _ (value-good right (r - 1) (label + labels_in left) (omega (arith, room)) under (omega (arith, labels)) h.1)
+        (good-append R (testing_divisor operator (r - 1) at) _ (good-testing R operator (r - 1) at (g.read (r - 1) lower under))
+        (good-binary (g.written r low high) (g.read r low high) (g.read (r - 1) lower under), tt)))
     value-good (Both left right) r label room high labels h =
         let low : link < r = omega (arith, room, room-positive left) in
-        good-append R (value_code scope r (label + 1) left) _ (value-good left r (label + 1) (omega (arith, room)) high (omega (arith, labels)) h.0)
-            (good-jump-zero (g.read r low high) (g.reached label (omega (arith, labels))),
-            good-append R (value_code scope r (label + 1 + labels_in left) right) _ (value-good right r (label + 1 + labels_in left) (omega (arith, room)) high (omega (arith, labels)) h.1)
-                (good-unary (g.written r low high) (g.read r low high), (good-unary (g.written r low high) (g.read r low high), (good-label, tt))))
+        good-append R (value_code scope r (label + 1) left) _ (value-good left r (label + 1) (omega (arith, room)) high (omega (arith, labels)) h.0) (
+          good-jump-zero (g.read r low high) (g.reached label (omega (arith, labels))),
+          good-append R (value_code scope r (label + 1 + labels_in left) right) _ (value-good right r (label + 1 + labels_in left) (omega (arith, room)) high (omega (arith, labels)) h.1)
+              (good-unary (g.written r low high) (g.read r low high), (good-unary (g.written r low high) (g.read r low high), (good-label, tt))),
+        )
     value-good (Either left right) r label room high labels h =
         let low : link < r = omega (arith, room, room-positive left) in
-        good-append R (value_code scope r (label + 1) left) _ (value-good left r (label + 1) (omega (arith, room)) high (omega (arith, labels)) h.0)
-            (good-unary (g.written r low high) (g.read r low high), (good-jump-zero (g.read r low high) (g.reached label (omega (arith, labels))), good-append R (value_code scope r (label + 1 + labels_in left) right) _ (value-good right r (label + 1 + labels_in left) (omega (arith, room)) high (omega (arith, labels)) h.1)
-                (good-unary (g.written r low high) (g.read r low high), (good-label, (good-unary (g.written r low high) (g.read r low high), tt)))))
+        good-append R (value_code scope r (label + 1) left) _ (value-good left r (label + 1) (omega (arith, room)) high (omega (arith, labels)) h.0) (
+          good-unary (g.written r low high) (g.read r low high),
+          (
+            good-jump-zero (g.read r low high) (g.reached label (omega (arith, labels))),
+            good-append R (value_code scope r (label + 1 + labels_in left) right) _ (value-good right r (label + 1 + labels_in left) (omega (arith, room)) high (omega (arith, labels)) h.1)
+                (good-unary (g.written r low high) (g.read r low high), (good-label, (good-unary (g.written r low high) (g.read r low high), tt))),
+          ),
+        )
 
     values-good : (arguments : Arguments) (r label : ℕ) → link + room_of_all arguments ≤ r → r ≤ top → label + labels_in_all arguments ≤ total → ArgumentsAgree around arguments → AllGood R (values_code scope r label arguments)
     values-good NoArguments r label room high labels h = tt
     values-good (Argument first later) r label room high labels h =
         good-append R (value_code scope r label first) _ (value-good first r label (omega (arith, room)) high (omega (arith, labels)) h.0)
-            (values-good later (r - 1) (label + labels_in first) (omega (arith, room)) (omega (arith, high)) (omega (arith, labels)) h.1)
+        (values-good later (r - 1) (label + labels_in first) (omega (arith, room)) (omega (arith, high)) (omega (arith, labels)) h.1)
 
     room-of-all-positive : (arguments : Arguments) → 1 ≤ room_of_all arguments
     room-of-all-positive NoArguments = omega arith
@@ -236,7 +242,7 @@ module _ (R : Rules) (scope : Scope) (around : Around) (link top total : ℕ) (g
   statement-good Nothing exits r label x room low high labels h = tt
   statement-good (Then first second) exits r label x room low high labels h =
       good-append R (statement_code scope exits r label first) _ (statement-good first exits r label x (omega (arith, room)) low high (omega (arith, labels)) h.0)
-          (statement-good second exits r (label + labels_within first) x (omega (arith, room)) low high (omega (arith, labels)) h.1)
+      (statement-good second exits r (label + labels_within first) x (omega (arith, room)) low high (omega (arith, labels)) h.1)
   statement-good Empty exits r label x room low high labels h = tt
   statement-good (Block body) exits r label x room low high labels h = statement-good body exits r label x room low high labels h
   statement-good (Local y value) exits r label x room low high labels h =
@@ -246,15 +252,16 @@ module _ (R : Rules) (scope : Scope) (around : Around) (link top total : ℕ) (g
   statement-good (Store at y length index value) exits r label x room low high labels h =
       let lower : link < r - 1 = omega (arith, room, room-positive value) in
       let under : r - 1 ≤ top = omega (arith, high) in
-      good-append R (value_code scope r label index) _ (value-good index r label (omega (arith, room)) high (omega (arith, labels)) h.2)
-          (good-test (g.read r low high),
-          good-append R (value_code scope (r - 1) (label + labels_in index) value) _ (value-good value (r - 1) (label + labels_in index) (omega (arith, room)) under (omega (arith, labels)) h.3)
-              (good-store (g.read r low high) (g.read (r - 1) lower under) (g.names.changed y length h.1 h.0), tt))
+      good-append R (value_code scope r label index) _ (value-good index r label (omega (arith, room)) high (omega (arith, labels)) h.2) (
+        good-test (g.read r low high),
+        good-append R (value_code scope (r - 1) (label + labels_in index) value) _ (value-good value (r - 1) (label + labels_in index) (omega (arith, room)) under (omega (arith, labels)) h.3)
+            (good-store (g.read r low high) (g.read (r - 1) lower under) (g.names.changed y length h.1 h.0), tt),
+      )
   statement-good (Call function arguments) exits r label x room low high labels h =
       let can : (R.reached function ≡ true) × (argument_count arguments ≤ 6) = g.names.callable function (argument_count arguments) h.0 in
       good-append R (values_code scope r label arguments) _ (values-good arguments r label room high labels h.1)
-          (good-append R (passing 0 r arguments) _ (passing-good arguments 0 r (omega (arith, can.1)) room high)
-              (good-calling R scope.private (scope.is_private function) function can.0))
+      (good-append R (passing 0 r arguments) _ (passing-good arguments 0 r (omega (arith, can.1)) room high)
+      (good-calling R scope.private (scope.is_private function) function can.0))
   statement-good Suspend exits r label x room low high labels h = (good-suspend, tt)
   statement-good (Release value) exits r label x room low high labels h =
       good-append R (value_code scope r label value) _ (value-good value r label room high labels h) (good-release (g.read r low high), tt)
@@ -264,36 +271,47 @@ module _ (R : Rules) (scope : Scope) (around : Around) (link top total : ℕ) (g
   statement-good Break exits r label x room low high labels h = (good-jump x.broken, tt)
   statement-good Continue exits r label x room low high labels h = (good-jump x.continued, tt)
   statement-good (If test body other) exits r label x room low high labels h =
-      good-append R (value_code scope r (label + 2) test) _ (value-good test r (label + 2) (omega (arith, room)) high (omega (arith, labels)) h.0)
-          (good-jump-zero (g.read r low high) (g.reached label (omega (arith, labels))),
-          good-append R (statement_code scope exits r (label + 2 + labels_in test) body) _ (statement-good body exits r (label + 2 + labels_in test) x (omega (arith, room)) low high (omega (arith, labels)) h.1)
-              (good-jump (g.reached (label + 1) (omega (arith, labels))), (good-label, good-append R (statement_code scope exits r (label + 2 + labels_in test + labels_within body) other) _
-                  (statement-good other exits r (label + 2 + labels_in test + labels_within body) x (omega (arith, room)) low high (omega (arith, labels)) h.2)
-                  (good-label, tt))))
+      good-append R (value_code scope r (label + 2) test) _ (value-good test r (label + 2) (omega (arith, room)) high (omega (arith, labels)) h.0) (
+        good-jump-zero (g.read r low high) (g.reached label (omega (arith, labels))),
+        good-append R (statement_code scope exits r (label + 2 + labels_in test) body) _ (statement-good body exits r (label + 2 + labels_in test) x (omega (arith, room)) low high (omega (arith, labels)) h.1) (
+          good-jump (g.reached (label + 1) (omega (arith, labels))),
+          (
+            good-label,
+            good-append R (statement_code scope exits r (label + 2 + labels_in test + labels_within body) other) _
+                (statement-good other exits r (label + 2 + labels_in test + labels_within body) x (omega (arith, room)) low high (omega (arith, labels)) h.2)
+                (good-label, tt),
+          ),
+        ),
+      )
   statement-good (While test body) exits r label x room low high labels h =
       let start : R.reached label ≡ true = g.reached label (omega (arith, labels)) in
-      let end : R.reached (label + 1) ≡ true = g.reached (label + 1) (omega (arith, labels)) in
-      (good-label,
-      good-append R (value_code scope r (label + 2) test) _ (value-good test r (label + 2) (omega (arith, room)) high (omega (arith, labels)) h.0)
-          (good-jump-zero (g.read r low high) end,
+      let end : R.reached (label + 1) ≡ true = g.reached (label + 1) (omega (arith, labels)) in (
+        good-label,
+        good-append R (value_code scope r (label + 2) test) _ (value-good test r (label + 2) (omega (arith, room)) high (omega (arith, labels)) h.0) (
+          good-jump-zero (g.read r low high) end,
           good-append R (statement_code scope (record exits { broken = label + 1; continued = label }) r (label + 2 + labels_in test) body) _
               (statement-good body (record exits { broken = label + 1; continued = label }) r (label + 2 + labels_in test) (record { broken = end; continued = start; returned = x.returned }) (omega (arith, room)) low high (omega (arith, labels)) h.1)
-              (good-jump start, (good-label, tt))))
+              (good-jump start, (good-label, tt)),
+        ),
+      )
   statement-good (For first test step body) exits r label x room low high labels h =
       let start : R.reached label ≡ true = g.reached label (omega (arith, labels)) in
       let next : R.reached (label + 1) ≡ true = g.reached (label + 1) (omega (arith, labels)) in
       let end : R.reached (label + 2) ≡ true = g.reached (label + 2) (omega (arith, labels)) in
       good-append R (statement_code scope heads r (label + 3) first) _
-          (statement-good first heads r (label + 3) (record { broken = start; continued = start; returned = start }) (omega (arith, room)) low high (omega (arith, labels)) h.0)
-          (good-label,
-          good-append R (value_or 1 scope r (label + 3 + labels_within first) test) _ (part-good 1 test r (label + 3 + labels_within first) (omega (arith, room)) high (omega (arith, labels)) h.1)
-              (good-jump-zero (g.read r low high) end,
-              good-append R (statement_code scope inner r (label + 3 + labels_within first + labels_in_part test) body) _
-                  (statement-good body inner r (label + 3 + labels_within first + labels_in_part test) (record { broken = end; continued = next; returned = x.returned }) (omega (arith, room)) low high (omega (arith, labels)) h.3)
-                  (good-label,
-                  good-append R (statement_code scope heads r (label + 3 + labels_within first + labels_in_part test + labels_within body) step) _
-                      (statement-good step heads r (label + 3 + labels_within first + labels_in_part test + labels_within body) (record { broken = start; continued = start; returned = start }) (omega (arith, room)) low high (omega (arith, labels)) h.2)
-                      (good-jump start, (good-label, tt)))))
+      (statement-good first heads r (label + 3) (record { broken = start; continued = start; returned = start }) (omega (arith, room)) low high (omega (arith, labels)) h.0) (
+        good-label,
+        good-append R (value_or 1 scope r (label + 3 + labels_within first) test) _ (part-good 1 test r (label + 3 + labels_within first) (omega (arith, room)) high (omega (arith, labels)) h.1) (
+          good-jump-zero (g.read r low high) end,
+          good-append R (statement_code scope inner r (label + 3 + labels_within first + labels_in_part test) body) _
+              (statement-good body inner r (label + 3 + labels_within first + labels_in_part test) (record { broken = end; continued = next; returned = x.returned }) (omega (arith, room)) low high (omega (arith, labels)) h.3) (
+                good-label,
+                good-append R (statement_code scope heads r (label + 3 + labels_within first + labels_in_part test + labels_within body) step) _
+                    (statement-good step heads r (label + 3 + labels_within first + labels_in_part test + labels_within body) (record { broken = start; continued = start; returned = start }) (omega (arith, room)) low high (omega (arith, labels)) h.2)
+                    (good-jump start, (good-label, tt)),
+              ),
+        ),
+      )
     where
       heads : Exits
       heads = record { broken = label; continued = label; returned = label }
@@ -316,10 +334,12 @@ module _ (R : Rules) (scope : Scope) (around : Around) (link top total : ℕ) (g
       let low : link < last = omega (arith, some) in
       let high : last ≤ top = omega (arith, e) in
       let done : R.reached label ≡ true = g.reached label (omega (arith, labels)) in
-      let over : R.reached (label + 1) ≡ true = g.reached (label + 1) (omega (arith, labels)) in
-      (good-label,
-      good-append R (taking scope 0 f.parameters) _ (taking-good f.parameters 0 (omega (arith, few)) unclassed among)
-          (good-save-link g.linked,
+      let over : R.reached (label + 1) ≡ true = g.reached (label + 1) (omega (arith, labels)) in (
+        good-label,
+        good-append R (taking scope 0 f.parameters) _ (taking-good f.parameters 0 (omega (arith, few)) unclassed among) (
+          good-save-link g.linked,
           good-append R (statement_code scope (record { broken = label + 1; continued = label + 1; returned = label }) last (label + 2) f.body) _
               (statement-good f.body (record { broken = label + 1; continued = label + 1; returned = label }) last (label + 2) (record { broken = over; continued = over; returned = done }) (omega arith) low high (omega (arith, labels)) h)
-              (good-label, (good-const (g.written last low high), (good-label, (good-set-result (g.read last low high), (good-return g.linked, tt)))))))
+              (good-label, (good-const (g.written last low high), (good-label, (good-set-result (g.read last low high), (good-return g.linked, tt))))),
+        ),
+      )

@@ -18,4 +18,5 @@ pub mod Whole
 pub mod Sizing
 pub mod Forms
 pub mod Formed
+mod Premises
 mod Worked

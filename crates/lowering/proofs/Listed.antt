@@ -58,7 +58,7 @@ no-rights Fetch = refl
 pub private-is-guarded : PrivateIsGuarded
 private-is-guarded ir access c i next f e m =
     ap (λ (t : Bool). pick t next stuck f)
-        (ap (λ (class : Class). nat_lt i (words_of ir c) && rights (mode_of f.private) class access) e
-        ∙ ap (λ (t : Bool). nat_lt i (words_of ir c) && rights (mode_of t) Private access) m
-        ∙ ap (λ (t : Bool). nat_lt i (words_of ir c) && t) (no-rights access)
-        ∙ none-right (nat_lt i (words_of ir c)))
+    (ap (λ (class : Class). nat_lt i (words_of ir c) && rights (mode_of f.private) class access) e
+    ∙ ap (λ (t : Bool). nat_lt i (words_of ir c) && rights (mode_of t) Private access) m
+    ∙ ap (λ (t : Bool). nat_lt i (words_of ir c) && t) (no-rights access)
+    ∙ none-right (nat_lt i (words_of ir c)))

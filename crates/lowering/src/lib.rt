@@ -3,4 +3,7 @@
 
 mod laws;
 
-pub use laws::{cells_are_as_listed, lowered_code_is_lawful, lowered_code_is_small, lowered_code_means_the_source};
+pub use laws::{
+    cells_are_as_listed, lowered_code_is_lawful, lowered_code_is_small,
+    lowered_code_means_the_source,
+};
