@@ -7,3 +7,5 @@ pub mod LoadLemmas
 pub mod CheckLemmas
 pub mod PassLemmas
 pub mod StartLemmas
+pub mod ContentLemmas
+pub mod LawProofs

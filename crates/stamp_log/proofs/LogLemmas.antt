@@ -28,7 +28,7 @@ line-none lines n none = ap (λ (b : Bool). cond b (Some (slice_index_or lines.p
 pub line-some : (lines : LogLines) (n : ℕ) → slice_index_or lines.held n false ≡ true → line_of lines n ≡ Some (slice_index_or lines.payloads n [])
 line-some lines n held = ap (λ (b : Bool). cond b (Some (slice_index_or lines.payloads n [])) None) held
 
-some-line : (b : Bool) (x y : List ℕ) → cond b (Some x) None ≡ Some y → b ≡ true
+pub some-line : (b : Bool) (x y : List ℕ) → cond b (Some x) None ≡ Some y → b ≡ true
 some-line true x y same = refl
 some-line false x y same = cc
 

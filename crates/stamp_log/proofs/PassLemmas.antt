@@ -74,7 +74,7 @@ writes-at-start older = open_writes-more (Note CheckStart) older ∙ append-nil 
 
 -- ---- the writes
 
-held-after : (blocks : ℕ) (before after : List Event) (old new : LogLines) → MakesRoom blocks before after old new → length new.held ≡ length old.held
+pub held-after : (blocks : ℕ) (before after : List Event) (old new : LogLines) → MakesRoom blocks before after old new → length new.held ≡ length old.held
 held-after blocks before after old new (MakesRoom.nothing same held payloads) = ap (λ (xs : List Bool). length xs) held
 held-after blocks before after old new (MakesRoom.written n stamp payload less line same held payloads) = ap (λ (xs : List Bool). length xs) held ∙ length-set old.held n false
 

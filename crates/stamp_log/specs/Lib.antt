@@ -7,3 +7,5 @@ pub mod StandsOn
 pub mod Checking
 pub mod LogCalls
 pub mod Starting
+pub mod LogContents
+pub mod LogLaws

@@ -27,8 +27,11 @@ pub record StandsOn (log : LogState) (older : History) : Type 0 where
   pub size : length log.lines.held ≡ log.blocks
 
 -- what a block of the log contains: the payload of its line, or else that of its last write-back
+abbrev pub contents_in : LogLines → History → ℕ → Option (List ℕ)
+contents_in lines older n = first_told (line_of lines n) (option_map (λ (block : Block). block.payload) (last_write (Log n) older))
+
 abbrev pub contents_of : LogState → History → ℕ → Option (List ℕ)
-contents_of log older n = first_told (line_of log.lines n) (option_map (λ (block : Block). block.payload) (last_write (Log n) older))
+contents_of log older n = contents_in log.lines older n
 
 -- the sum of no entries
 abbrev pub no_entries : EntrySum

@@ -9,6 +9,6 @@ mod sums;
 mod trace;
 
 pub use causes::{Changed, LogCause};
-pub use laws::offline_checks_suffice;
+pub use laws::{foreign_events_keep, lending_changes_contents, offline_checks_suffice};
 pub use log::StampLog;
 pub use sums::MultisetSum;

@@ -14,7 +14,8 @@ ghost use Rattle.stamp_log.specs.LogCalls.{Fetches, HoldsNothing, MakesRoom, Wri
 ghost use Rattle.stamp_log.specs.Checking.{IsReading, check_reads};
 ghost use Rattle.stamp_log.specs.OfflineCheck.{FutureRead, IsCause, PassedFaithful};
 ghost use Rattle.stamp_log.specs.Starting.{HasNoLog, IsStarting};
-ghost use Rattle.stamp_log.specs.StandsOn.{IsNew, StandsOn};
+ghost use Rattle.stamp_log.specs.StandsOn.{IsNew, StandsOn, contents_of};
+ghost use Rattle.stamp_log.specs.LogContents.{KeepsContents, ReadKeepsContents};
 
 use crate::causes::{Changed, LogCause};
 use crate::lines::Lines;
@@ -107,6 +108,12 @@ impl StampLog {
         ensures fetches { is_some (line_of self.old.lines block) ≡ false
             → Fetches self.old.blocks block result (O.trace bus.old) (O.trace bus.new)
             self.old.lines self.new.lines }
+        ensures kept { is_some (line_of self.old.lines block) ≡ true
+            → KeepsContents self.old.lines self.new.lines
+            (history (O.trace bus.old)) (history (O.trace bus.new)) }
+        ensures contents { is_some (line_of self.old.lines block) ≡ false
+            → OnOk result (ReadKeepsContents block self.old.lines self.new.lines
+            (O.trace bus.old) (O.trace bus.new)) }
         ensures stands { OnOk result (StandsOn self.new (history (O.trace bus.new))) }
         ensures fits { StampsFit stamps.new (history (O.trace bus.new)) }
         ensures room { O.room bus.old ≤ O.room bus.new + 2 }
@@ -138,6 +145,7 @@ impl StampLog {
         requires below { block < self.now.blocks }
         requires cached { is_some (line_of self.now.lines block) ≡ true }
         ensures value { line_of self.now.lines block ≡ Some result.now }
+        ensures contents { (older : History) → contents_of self.now older block ≡ Some result.now }
     {
         self.lines.payload(block)
     }

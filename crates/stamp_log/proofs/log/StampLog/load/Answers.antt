@@ -5,10 +5,12 @@ use Rattle.off_chip.specs.Epochs.{LogEntry}
 use Rattle.off_chip.specs.Collisions.{sum_of}
 use Rattle.stamp_log.specs.LogState.{LogState, value_under}
 use Rattle.stamp_log.specs.LogCalls.{MakesRoom}
+use Rattle.stamp_log.specs.LogContents.{ReadKeepsContents}
 use Rattle.stamp_log.specs.StandsOn.{StandsOn}
 use Rattle.stamp_log.proofs.SumLemmas.{reads-room}
 use Rattle.stamp_log.proofs.LogLemmas.{line-none, inserted-here, inserted-apart, room-keeps, RoomKeeps}
 use Rattle.stamp_log.proofs.LoadLemmas.{RoomMade, room-made, load-stands, read-fits, above-writes, not-above}
+use Rattle.stamp_log.proofs.ContentLemmas.{read-contents, same-contents}
 use Rattle.stamp_log.proofs.log.StampLog.load.Goals as goal
 
 pub add-requires : goal.add-requires
@@ -46,6 +48,30 @@ returns-in-Ok-clause-fetches g c = λ none.
           (omega (arith, below, made.payloads, c.self.invariant.1)) c.insert.ensures.held c.insert.ensures.payloads;
       apart = λ n differ. inserted-apart c.make_room.new.lines c.insert.new.self c.args.block n c.read_entry.new.into.payload differ c.insert.ensures.held c.insert.ensures.payloads;
     }
+
+pub returns-then-has-clause-kept : goal.returns-then-has-clause-kept
+returns-then-has-clause-kept g c = λ held. same-contents c.args.self.now.lines c.touch.new.self (history (g.O.OffChip.trace c.args.bus.now))
+    (c.touch.ensures.held ∙ ap (λ (l : LogState). l.lines.held) c.self.view_is) (c.touch.ensures.payloads ∙ ap (λ (l : LogState). l.lines.payloads) c.self.view_is)
+
+pub returns-in-Ok-clause-contents : goal.returns-in-Ok-clause-contents
+returns-in-Ok-clause-contents g c = λ none.
+    let old : LogState = record { key = c.self.inside.key; blocks = c.self.inside.blocks; lines = c.self.inside.lines; read = c.self.inside.read; written = c.self.inside.written } in
+    let stands : StandsOn old (history (g.O.OffChip.trace c.args.bus.now)) = subst (λ (l : LogState). StandsOn l (history (g.O.OffChip.trace c.args.bus.now))) (sym c.self.view_is) c.requires.stands in
+    let below : c.args.block < c.self.inside.blocks = subst (λ (l : LogState). c.args.block < l.blocks) (sym c.self.view_is) c.requires.below in
+    let makes : MakesRoom c.self.inside.blocks (g.O.OffChip.trace c.args.bus.now) (g.O.OffChip.trace c.make_room.new.bus) c.self.inside.lines c.make_room.new.lines =
+    subst (λ (n : ℕ). MakesRoom n (g.O.OffChip.trace c.args.bus.now) (g.O.OffChip.trace c.make_room.new.bus) c.self.inside.lines c.make_room.new.lines) c.self.invariant.0 c.make_room.ensures.makes in
+    let keeps : RoomKeeps (value_under c.self.inside.key) c.self.inside.blocks (history (g.O.OffChip.trace c.args.bus.now)) (history (g.O.OffChip.trace c.make_room.new.bus)) c.make_room.new.lines =
+    room-keeps (value_under c.self.inside.key) c.self.inside.blocks _ _ c.self.inside.lines c.make_room.new.lines makes c.self.invariant.0 stands.lines stands.trace in
+    let made : RoomMade c.args.block c.self.inside.lines c.make_room.new.lines =
+    room-made c.self.inside.blocks c.args.block _ _ c.self.inside.lines c.make_room.new.lines makes c.self.invariant.0
+    (ap is_some (line-none c.self.inside.lines c.args.block (sym c.has.ensures ∙ c.if-has.false))) in
+    subst (λ (l : LogState). ReadKeepsContents c.args.block l.lines c.insert.new.self (g.O.OffChip.trace c.args.bus.now) (g.O.OffChip.trace c.read_entry.new.bus)) c.self.view_is
+    (read-contents c.self.inside.blocks c.args.block c.read_entry.new.into (g.O.OffChip.trace c.args.bus.now) (g.O.OffChip.trace c.make_room.new.bus)
+    (g.O.OffChip.trace c.read_entry.new.bus) c.self.inside.lines c.make_room.new.lines c.insert.new.self makes c.self.invariant.0 made.none
+    (keeps.trace.written c.args.block below) c.read_entry.ensures.event.trace
+    (inserted-here c.make_room.new.lines c.insert.new.self c.args.block c.read_entry.new.into.payload (omega (arith, below, made.held, c.self.invariant.0))
+    (omega (arith, below, made.payloads, c.self.invariant.1)) c.insert.ensures.held c.insert.ensures.payloads)
+    (λ n differ. inserted-apart c.make_room.new.lines c.insert.new.self c.args.block n c.read_entry.new.into.payload differ c.insert.ensures.held c.insert.ensures.payloads))
 
 pub returns-in-Ok-clause-stands : goal.returns-in-Ok-clause-stands
 returns-in-Ok-clause-stands g c =
