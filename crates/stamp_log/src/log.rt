@@ -146,6 +146,7 @@ impl StampLog {
         requires cached { is_some (line_of self.now.lines block) ≡ true }
         ensures value { line_of self.now.lines block ≡ Some result.now }
         ensures contents { (older : History) → contents_of self.now older block ≡ Some result.now }
+        ensures contents { (older : History) → contents_of self.now older block ≡ Some result.now }
     {
         self.lines.payload(block)
     }
