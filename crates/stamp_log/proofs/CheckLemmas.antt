@@ -23,12 +23,12 @@ use Rattle.stamp_log.specs.Checking.{check_reads, no_image, HasRead, IsChecking,
 use Rattle.stamp_log.proofs.Offline.{out-read, out-read-apart, writes-read}
 use Rattle.stamp_log.proofs.TraceLemmas.{trace-read, reads-push}
 
-get-front : (xs ys : List LogEntry) (k : ℕ) (y : LogEntry) → slice_get xs k ≡ Some y → slice_get (xs ++ ys) k ≡ Some y
+pub get-front : (xs ys : List LogEntry) (k : ℕ) (y : LogEntry) → slice_get xs k ≡ Some y → slice_get (xs ++ ys) k ≡ Some y
 get-front [] ys k y found = cc
 get-front (z ∷ xs) ys zero y found = found
 get-front (z ∷ xs) ys (suc k) y found = get-front xs ys k y found
 
-get-last : (xs : List LogEntry) (x : LogEntry) (k : ℕ) → k ≡ length xs → slice_get (xs ++ x ∷ []) k ≡ Some x
+pub get-last : (xs : List LogEntry) (x : LogEntry) (k : ℕ) → k ≡ length xs → slice_get (xs ++ x ∷ []) k ≡ Some x
 get-last [] x k is = ap (λ (n : ℕ). slice_get (x ∷ []) n) is
 get-last (z ∷ xs) x k is = ap (λ (n : ℕ). slice_get (z ∷ xs ++ x ∷ []) n) is ∙ get-last xs x (length xs) refl
 

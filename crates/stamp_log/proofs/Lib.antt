@@ -8,4 +8,5 @@ pub mod CheckLemmas
 pub mod PassLemmas
 pub mod StartLemmas
 pub mod ContentLemmas
+pub mod EventLemmas
 pub mod LawProofs

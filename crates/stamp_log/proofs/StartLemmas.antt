@@ -112,7 +112,7 @@ pub starting-appended : (blocks n : ℕ) (block : Block) (before after : List Ev
 starting-appended blocks n block before after appended starting less =
     subst (λ (h : History). IsStarting blocks (n + 1) h) (sym (history-appended before after (BlockWrite (Log n) block) appended)) (starting-more blocks n block (history before) starting less)
 
-none-held : (count n : ℕ) → slice_index_or (replicate count false) n false ≡ false
+pub none-held : (count n : ℕ) → slice_index_or (replicate count false) n false ≡ false
 none-held zero n = refl
 none-held (suc count) zero = refl
 none-held (suc count) (suc n) = none-held count n

@@ -8,4 +8,5 @@ pub mod Checking
 pub mod LogCalls
 pub mod Starting
 pub mod LogContents
+pub mod LogEvents
 pub mod LogLaws

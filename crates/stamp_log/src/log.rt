@@ -1,6 +1,6 @@
 //! The time-stamped log, after the offline checks of Suh et al., "Efficient Memory Integrity Verification and Encryption
 //! for Secure Processors", MICRO 2003.
-ghost use Rattle.std.specs.Prelude.{◌≡◌, ◌+◌, ◌<◌, ◌≤◌, false, true, is_some, length, Some, IfErr, IfOk, IsOk, IsTrue, OnOk, ◌↔◌};
+ghost use Rattle.std.specs.Prelude.{◌≡◌, ℕ, ◌+◌, ◌<◌, ◌≤◌, ◌++◌, false, true, is_some, length, Some, IfErr, IfOk, IsOk, IsTrue, OnErr, OnOk, ◌↔◌};
 ghost use Rattle.aegis_num.specs.declared.storage.Place.TheVariants.{Log};
 ghost use Rattle.off_chip.specs.BusCalls.{TellsLog};
 ghost use Rattle.off_chip.specs.Histories.{History, history};
@@ -14,8 +14,10 @@ ghost use Rattle.stamp_log.specs.LogCalls.{Fetches, HoldsNothing, MakesRoom, Wri
 ghost use Rattle.stamp_log.specs.Checking.{IsReading, check_reads};
 ghost use Rattle.stamp_log.specs.OfflineCheck.{FutureRead, IsCause, PassedFaithful};
 ghost use Rattle.stamp_log.specs.Starting.{HasNoLog, IsStarting};
+ghost use Rattle.stamp_log.specs.LogStands.{AreLastWrites};
 ghost use Rattle.stamp_log.specs.StandsOn.{IsNew, StandsOn, contents_of};
 ghost use Rattle.stamp_log.specs.LogContents.{KeepsContents, ReadKeepsContents};
+ghost use Rattle.stamp_log.specs.LogEvents.{ReadsInOrder, RunsCheck, StopsReading, zero_payload, zeros_written};
 
 use crate::causes::{Changed, LogCause};
 use crate::lines::Lines;
@@ -81,6 +83,12 @@ impl StampLog {
         requires clean { HasNoLog (history (O.trace bus.old)) }
         requires fits { StampsFit stamps.old (history (O.trace bus.old)) }
         ensures stands { StandsOn self.new (history (O.trace bus.new)) }
+        ensures events { O.trace bus.new
+            ≡ O.trace bus.old ++ zeros_written stamps.old self.old.blocks }
+        ensures contents { (n : ℕ) → n < self.old.blocks
+            → contents_of self.new (history (O.trace bus.new)) n ≡ Some zero_payload }
+        ensures first { AreLastWrites self.old.blocks
+            (open_writes (history (O.trace bus.new))) (history (O.trace bus.new)) }
         ensures fits { StampsFit stamps.new (history (O.trace bus.new)) }
         ensures room { O.room bus.old ≤ O.room bus.new + self.old.blocks }
         ensures same { O.same_memory bus.old bus.new }
@@ -108,6 +116,8 @@ impl StampLog {
         ensures fetches { is_some (line_of self.old.lines block) ≡ false
             → Fetches self.old.blocks block result (O.trace bus.old) (O.trace bus.new)
             self.old.lines self.new.lines }
+        ensures lines { is_some (line_of self.old.lines block) ≡ true
+            → (n : ℕ) → line_of self.new.lines n ≡ line_of self.old.lines n }
         ensures kept { is_some (line_of self.old.lines block) ≡ true
             → KeepsContents self.old.lines self.new.lines
             (history (O.trace bus.old)) (history (O.trace bus.new)) }
@@ -146,7 +156,6 @@ impl StampLog {
         requires cached { is_some (line_of self.now.lines block) ≡ true }
         ensures value { line_of self.now.lines block ≡ Some result.now }
         ensures contents { (older : History) → contents_of self.now older block ≡ Some result.now }
-        ensures contents { (older : History) → contents_of self.now older block ≡ Some result.now }
     {
         self.lines.payload(block)
     }
@@ -181,6 +190,12 @@ impl StampLog {
         ensures faithful { OnOk result
             (PassedFaithful (value_under self.old.key) (O.trace bus.new)) }
         ensures cause { IfErr result (IsCause (value_under self.old.key) (O.trace bus.new)) }
+        ensures events { RunsCheck (value_under self.old.key) self.old.blocks result
+            (O.trace bus.old) (O.trace bus.new) self.old.lines self.new.lines }
+        ensures most { length (O.trace bus.new)
+            ≤ length (O.trace bus.old) + (self.old.blocks + 34) }
+        ensures contents { KeepsContents self.old.lines self.new.lines
+            (history (O.trace bus.old)) (history (O.trace bus.new)) }
         ensures fits { StampsFit stamps.new (history (O.trace bus.new)) }
         ensures room { O.room bus.old ≤ O.room bus.new + (self.old.blocks + 34) }
         ensures same { O.same_memory bus.old bus.new }
@@ -228,6 +243,7 @@ fn write_zeros<O: OffChip>(
     requires sum { entry_sum written.old
         ≡ sum_of (value_under key.now) (open_writes (history (O.trace bus.old))) }
     ensures starting { IsStarting blocks blocks (history (O.trace bus.new)) }
+    ensures events { O.trace bus.new ≡ O.trace bus.old ++ zeros_written stamps.old blocks }
     ensures room { O.room bus.old ≤ O.room bus.new + blocks }
     ensures fits { StampsFit stamps.new (history (O.trace bus.new)) }
     ensures sum { entry_sum written.new
@@ -316,6 +332,7 @@ fn write_all<O: OffChip>(
     ensures held { length lines.new.held ≡ length lines.old.held }
     ensures payloads { lines.new.payloads ≡ lines.old.payloads }
     ensures room { O.room bus.old ≤ O.room bus.new + 32 }
+    ensures few { length (O.trace bus.new) ≤ length (O.trace bus.old) + 32 }
     ensures writes { WritesBack (length lines.old.held) (O.trace bus.old) (O.trace bus.new)
         lines.old lines.new }
     ensures fits { StampsFit stamps.new (history (O.trace bus.new)) }
@@ -348,6 +365,8 @@ fn read_all<O: OffChip>(
     requires reading { IsReading (value_under key.now) blocks 0
         (history (O.trace bus.old)) (history (O.trace bus.old)) }
     ensures future { IfErr result (FutureRead (O.trace bus.new)) }
+    ensures order { OnOk result (ReadsInOrder blocks (O.trace bus.old) (O.trace bus.new)) }
+    ensures stops { OnErr result (StopsReading blocks (O.trace bus.old) (O.trace bus.new)) }
     ensures room { O.room bus.old ≤ O.room bus.new + blocks }
     ensures fits { StampsFit stamps.now (history (O.trace bus.new)) }
     ensures read { OnOk result (entry_sum read.new

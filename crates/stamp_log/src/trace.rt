@@ -30,6 +30,7 @@ pub(crate) fn write_back<O: OffChip>(
         ≡ sum_of (value_under key.now) (open_writes (history (O.trace bus.old))) }
     ensures event { AppendsOne (BlockWrite (Log number) (stamped payload.now (stamps.old + 1)))
         (O.trace bus.old) (O.room bus.old) (O.trace bus.new) (O.room bus.new) }
+    ensures next { stamps.new ≡ stamps.old + 1 }
     ensures fits { StampsFit stamps.new (history (O.trace bus.new)) }
     ensures sum { entry_sum written.new
         ≡ sum_of (value_under key.now) (open_writes (history (O.trace bus.new))) }

@@ -6,6 +6,7 @@ use Rattle.off_chip.specs.Collisions.{sum_of}
 use Rattle.off_chip.specs.BusCalls.{TellsLog}
 use Rattle.stamp_log.specs.LogState.{entry_sum, value_under}
 use Rattle.stamp_log.specs.Checking.{IsReading, check_reads}
+use Rattle.stamp_log.specs.LogEvents.{ReadsInOrder}
 use Rattle.stamp_log.proofs.log.read_all.Given as goal
 
 abbrev pub invariant-numbers : goal.invariant-numbers
@@ -17,5 +18,6 @@ invariant-numbers g l = record {
   read : entry_sum l.read ≡ sum_of (value_under l.key) (open_reads (history (g.O.OffChip.trace l.bus)));
   next : entry_sum l.next ≡ sum_of (value_under l.key) (check_reads (history (g.O.OffChip.trace l.bus)));
   reading : IsReading (value_under l.key) l.blocks l.number (history (g.O.OffChip.trace l.fn.bus)) (history (g.O.OffChip.trace l.bus));
+  order : ReadsInOrder l.number (g.O.OffChip.trace l.fn.bus) (g.O.OffChip.trace l.bus);
   same : g.O.OffChip.same_memory l.fn.bus l.bus;
 }

@@ -2,6 +2,7 @@ use Rattle.std.proofs.Common.{rules, ℕ, ◌∙◌, arith, subst, length, Optio
 use Rattle.regions.specs.declared.layout.Layout.{Layout}
 use Rattle.off_chip.specs.BusCalls.{TellsLog}
 use Rattle.stamp_log.specs.LogCalls.{WritesBack, MakesRoom}
+use Rattle.stamp_log.proofs.EventLemmas.{room-length}
 use Rattle.stamp_log.proofs.log.write_all.Goals as goal
 
 pub lines-init : goal.lines-init
@@ -13,6 +14,7 @@ lines-init g c = record {
   last = λ none. c.len-end.ensures.nothing (c.len-end.ensures.value ∙ none);
   room = omega (arith, c.requires.has_room);
   used = omega arith;
+  grown = omega arith;
   writes = WritesBack.none (g.O.OffChip.trace c.args.bus.now) c.args.lines.now;
   told = c.requires.told;
   fits = c.requires.fits;
@@ -29,6 +31,8 @@ lines-preserved g c = record {
   last = c.write_oldest.ensures.last;
   room = omega (arith, c.lines.invariant.room, c.write_oldest.ensures.room);
   used = omega (arith, c.lines.invariant.used, c.write_oldest.ensures.room);
+  grown = omega (arith, c.lines.invariant.grown, room-length (length c.lines.lines.held) (g.O.OffChip.trace c.lines.bus) (g.O.OffChip.trace c.write_oldest.new.bus)
+      c.lines.lines c.write_oldest.new.lines c.write_oldest.ensures.makes);
   writes = WritesBack.more (g.O.OffChip.trace c.args.bus.now) (g.O.OffChip.trace c.lines.bus) (g.O.OffChip.trace c.write_oldest.new.bus)
       c.args.lines.now c.lines.lines c.write_oldest.new.lines c.lines.invariant.writes
       (subst (λ (n : ℕ). MakesRoom n (g.O.OffChip.trace c.lines.bus) (g.O.OffChip.trace c.write_oldest.new.bus) c.lines.lines c.write_oldest.new.lines)

@@ -17,6 +17,7 @@ invariant-lines g l = record {
   last : length l.lines.order ≡ 0 → HoldsNothing l.lines;
   room : 32 ≤ g.O.OffChip.room l.bus + l.counter;
   used : g.O.OffChip.room l.fn.bus ≤ g.O.OffChip.room l.bus + l.counter;
+  grown : length (g.O.OffChip.trace l.bus) ≤ length (g.O.OffChip.trace l.fn.bus) + l.counter;
   writes : WritesBack (length l.fn.lines.held) (g.O.OffChip.trace l.fn.bus) (g.O.OffChip.trace l.bus) l.fn.lines l.lines;
   told : TellsLog (length l.fn.lines.held) (g.O.OffChip.layout l.bus);
   fits : StampsFit l.stamps (history (g.O.OffChip.trace l.bus));

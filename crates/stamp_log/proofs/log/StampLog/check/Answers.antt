@@ -1,4 +1,5 @@
-use Rattle.std.proofs.Common.{◌≡◌, ℕ, List, ◌∙◌, ap, sym, subst, arith, refl, length, Option}
+use Rattle.std.proofs.Common.{◌≡◌, ◌+◌, ◌≤◌, ℕ, List, ◌∙◌, ap, sym, subst, arith, refl, length, Option}
+use Rattle.std.specs.Prelude.{Ok, Err}
 use Rattle.regions.specs.declared.layout.Layout.{Layout}
 use Rattle.off_chip.specs.declared.event.Mark.TheVariants.{CheckStart, CheckPassed}
 use Rattle.off_chip.specs.Histories.{history}
@@ -9,6 +10,9 @@ use Rattle.stamp_log.specs.LogState.{LogState, value_under, entry_sum}
 use Rattle.stamp_log.specs.LogCalls.{WritesBack}
 use Rattle.stamp_log.specs.StandsOn.{StandsOn}
 use Rattle.stamp_log.specs.OfflineCheck.{PassedFaithful, SumsDiffer}
+use Rattle.stamp_log.specs.declared.causes.LogCause.TheVariants.{Future, Sums}
+use Rattle.stamp_log.specs.LogEvents.{EndsCheck, RunsCheck, SumsAgree}
+use Rattle.stamp_log.proofs.EventLemmas.{check-runs, check-most, check-contents}
 use Rattle.stamp_log.proofs.PassLemmas.{InWrites, mark-fits, start-sum, all-written, none-checked, empty-sum, reads-begin, check-stands, same-sum, differ-sum, passed-faithful}
 use Rattle.stamp_log.proofs.log.StampLog.check.Goals as goal
 
@@ -81,3 +85,68 @@ returns-then-ne-clause-cause g c =
     ap (λ (xs : List LogEntry). sum_of (value_under c.self.inside.key) xs) c.in_default.ensures.reading.writes ∙ sym c.write_all.ensures.sum in
     subst (λ (l : LogState). SumsDiffer (value_under l.key) (g.O.OffChip.trace c.read_all.new.bus) c.read_all.new.read c.write_all.new.written) c.self.view_is
     (record { reads = c.in_default.ensures.read; writes = sym kept; differ = differ-sum c.read_all.new.read c.write_all.new.written c.if-ne.ensures })
+
+pub returns-clause-events : goal.returns-clause-events
+returns-clause-events g c =
+    let value : LogEntry → ℕ = value_under c.self.inside.key in
+    let writes : WritesBack c.self.inside.blocks (g.O.OffChip.trace c.note.new.self) (g.O.OffChip.trace c.write_all.new.bus) c.self.inside.lines c.write_all.new.lines =
+    subst (λ (n : ℕ). WritesBack n (g.O.OffChip.trace c.note.new.self) (g.O.OffChip.trace c.write_all.new.bus) c.self.inside.lines c.write_all.new.lines) c.self.invariant.0 c.write_all.ensures.writes in
+    let kept : sum_of value (open_writes (history (g.O.OffChip.trace c.read_all.new.bus))) ≡ entry_sum c.write_all.new.written =
+    ap (λ (xs : List LogEntry). sum_of value xs) c.in_default.ensures.reading.writes ∙ sym c.write_all.ensures.sum in
+    let agree : SumsAgree value (g.O.OffChip.trace c.read_all.new.bus) =
+    sym c.in_default.ensures.read ∙ same-sum c.read_all.new.read c.write_all.new.written c.if-ne.ensures ∙ sym kept in
+    let ends : EndsCheck value c.self.inside.blocks (g.O.OffChip.trace c.write_all.new.bus) (g.O.OffChip.trace c.note-2.new.self) (Ok tt) =
+    EndsCheck.passes (g.O.OffChip.trace c.read_all.new.bus) c.in_default.ensures.order agree c.note-2.ensures.event.trace refl in
+    subst (λ (l : LogState). RunsCheck (value_under l.key) l.blocks (Ok tt) (g.O.OffChip.trace c.args.bus.now) (g.O.OffChip.trace c.note-2.new.self) l.lines c.write_all.new.lines) c.self.view_is
+    (check-runs value c.self.inside.blocks (Ok tt) (g.O.OffChip.trace c.args.bus.now) (g.O.OffChip.trace c.note.new.self) (g.O.OffChip.trace c.write_all.new.bus)
+    (g.O.OffChip.trace c.note-2.new.self) c.self.inside.lines c.write_all.new.lines c.note.ensures.event.trace writes c.write_all.ensures.nothing c.write_all.ensures.few ends)
+
+pub returns-clause-most : goal.returns-clause-most
+returns-clause-most g c = check-most (value_under c.args.self.now.key) c.args.self.now.blocks (Ok tt) (g.O.OffChip.trace c.args.bus.now) (g.O.OffChip.trace c.note-2.new.self)
+    c.args.self.now.lines c.write_all.new.lines (returns-clause-events g c)
+
+pub returns-clause-contents : goal.returns-clause-contents
+returns-clause-contents g c = check-contents (value_under c.args.self.now.key) c.args.self.now.blocks (Ok tt) (g.O.OffChip.trace c.args.bus.now) (g.O.OffChip.trace c.note-2.new.self)
+    c.args.self.now.lines c.write_all.new.lines c.requires.stands.size (returns-clause-events g c)
+
+pub returns-then-ne-clause-events : goal.returns-then-ne-clause-events
+returns-then-ne-clause-events g c =
+    let value : LogEntry → ℕ = value_under c.self.inside.key in
+    let writes : WritesBack c.self.inside.blocks (g.O.OffChip.trace c.note.new.self) (g.O.OffChip.trace c.write_all.new.bus) c.self.inside.lines c.write_all.new.lines =
+    subst (λ (n : ℕ). WritesBack n (g.O.OffChip.trace c.note.new.self) (g.O.OffChip.trace c.write_all.new.bus) c.self.inside.lines c.write_all.new.lines) c.self.invariant.0 c.write_all.ensures.writes in
+    let kept : sum_of value (open_writes (history (g.O.OffChip.trace c.read_all.new.bus))) ≡ entry_sum c.write_all.new.written =
+    ap (λ (xs : List LogEntry). sum_of value xs) c.in_default.ensures.reading.writes ∙ sym c.write_all.ensures.sum in
+    let differ : SumsAgree value (g.O.OffChip.trace c.read_all.new.bus) → ⊥ =
+    λ agree. differ-sum c.read_all.new.read c.write_all.new.written c.if-ne.ensures (c.in_default.ensures.read ∙ agree ∙ kept) in
+    let ends : EndsCheck value c.self.inside.blocks (g.O.OffChip.trace c.write_all.new.bus) (g.O.OffChip.trace c.read_all.new.bus) (Err (Sums c.read_all.new.read c.write_all.new.written)) =
+    EndsCheck.differs c.read_all.new.read c.write_all.new.written c.in_default.ensures.order differ refl in
+    subst (λ (l : LogState). RunsCheck (value_under l.key) l.blocks (Err (Sums c.read_all.new.read c.write_all.new.written)) (g.O.OffChip.trace c.args.bus.now) (g.O.OffChip.trace c.read_all.new.bus) l.lines c.write_all.new.lines) c.self.view_is
+    (check-runs value c.self.inside.blocks (Err (Sums c.read_all.new.read c.write_all.new.written)) (g.O.OffChip.trace c.args.bus.now) (g.O.OffChip.trace c.note.new.self) (g.O.OffChip.trace c.write_all.new.bus)
+    (g.O.OffChip.trace c.read_all.new.bus) c.self.inside.lines c.write_all.new.lines c.note.ensures.event.trace writes c.write_all.ensures.nothing c.write_all.ensures.few ends)
+
+pub returns-then-ne-clause-most : goal.returns-then-ne-clause-most
+returns-then-ne-clause-most g c = check-most (value_under c.args.self.now.key) c.args.self.now.blocks (Err (Sums c.read_all.new.read c.write_all.new.written)) (g.O.OffChip.trace c.args.bus.now) (g.O.OffChip.trace c.read_all.new.bus)
+    c.args.self.now.lines c.write_all.new.lines (returns-then-ne-clause-events g c)
+
+pub returns-then-ne-clause-contents : goal.returns-then-ne-clause-contents
+returns-then-ne-clause-contents g c = check-contents (value_under c.args.self.now.key) c.args.self.now.blocks (Err (Sums c.read_all.new.read c.write_all.new.written)) (g.O.OffChip.trace c.args.bus.now) (g.O.OffChip.trace c.read_all.new.bus)
+    c.args.self.now.lines c.write_all.new.lines c.requires.stands.size (returns-then-ne-clause-events g c)
+
+pub returns-in-Err-clause-events : goal.returns-in-Err-clause-events
+returns-in-Err-clause-events g c =
+    let value : LogEntry → ℕ = value_under c.self.inside.key in
+    let writes : WritesBack c.self.inside.blocks (g.O.OffChip.trace c.note.new.self) (g.O.OffChip.trace c.write_all.new.bus) c.self.inside.lines c.write_all.new.lines =
+    subst (λ (n : ℕ). WritesBack n (g.O.OffChip.trace c.note.new.self) (g.O.OffChip.trace c.write_all.new.bus) c.self.inside.lines c.write_all.new.lines) c.self.invariant.0 c.write_all.ensures.writes in
+    let ends : EndsCheck value c.self.inside.blocks (g.O.OffChip.trace c.write_all.new.bus) (g.O.OffChip.trace c.read_all.new.bus) (Err (Future c.in-Err.event)) =
+    EndsCheck.stops c.in-Err.event c.in-Err.ensures.stops refl in
+    subst (λ (l : LogState). RunsCheck (value_under l.key) l.blocks (Err (Future c.in-Err.event)) (g.O.OffChip.trace c.args.bus.now) (g.O.OffChip.trace c.read_all.new.bus) l.lines c.write_all.new.lines) c.self.view_is
+    (check-runs value c.self.inside.blocks (Err (Future c.in-Err.event)) (g.O.OffChip.trace c.args.bus.now) (g.O.OffChip.trace c.note.new.self) (g.O.OffChip.trace c.write_all.new.bus)
+    (g.O.OffChip.trace c.read_all.new.bus) c.self.inside.lines c.write_all.new.lines c.note.ensures.event.trace writes c.write_all.ensures.nothing c.write_all.ensures.few ends)
+
+pub returns-in-Err-clause-most : goal.returns-in-Err-clause-most
+returns-in-Err-clause-most g c = check-most (value_under c.args.self.now.key) c.args.self.now.blocks (Err (Future c.in-Err.event)) (g.O.OffChip.trace c.args.bus.now) (g.O.OffChip.trace c.read_all.new.bus)
+    c.args.self.now.lines c.write_all.new.lines (returns-in-Err-clause-events g c)
+
+pub returns-in-Err-clause-contents : goal.returns-in-Err-clause-contents
+returns-in-Err-clause-contents g c = check-contents (value_under c.args.self.now.key) c.args.self.now.blocks (Err (Future c.in-Err.event)) (g.O.OffChip.trace c.args.bus.now) (g.O.OffChip.trace c.read_all.new.bus)
+    c.args.self.now.lines c.write_all.new.lines c.requires.stands.size (returns-in-Err-clause-events g c)

@@ -8,7 +8,7 @@ use Rattle.stamp_log.specs.LogCalls.{MakesRoom}
 use Rattle.stamp_log.specs.LogContents.{ReadKeepsContents}
 use Rattle.stamp_log.specs.StandsOn.{StandsOn}
 use Rattle.stamp_log.proofs.SumLemmas.{reads-room}
-use Rattle.stamp_log.proofs.LogLemmas.{line-none, inserted-here, inserted-apart, room-keeps, RoomKeeps}
+use Rattle.stamp_log.proofs.LogLemmas.{line-none, inserted-here, inserted-apart, same-lines, room-keeps, RoomKeeps}
 use Rattle.stamp_log.proofs.LoadLemmas.{RoomMade, room-made, load-stands, read-fits, above-writes, not-above}
 use Rattle.stamp_log.proofs.ContentLemmas.{read-contents, same-contents}
 use Rattle.stamp_log.proofs.log.StampLog.load.Goals as goal
@@ -48,6 +48,10 @@ returns-in-Ok-clause-fetches g c = λ none.
           (omega (arith, below, made.payloads, c.self.invariant.1)) c.insert.ensures.held c.insert.ensures.payloads;
       apart = λ n differ. inserted-apart c.make_room.new.lines c.insert.new.self c.args.block n c.read_entry.new.into.payload differ c.insert.ensures.held c.insert.ensures.payloads;
     }
+
+pub returns-then-has-clause-lines : goal.returns-then-has-clause-lines
+returns-then-has-clause-lines g c = λ held n. same-lines c.args.self.now.lines c.touch.new.self n
+    (c.touch.ensures.held ∙ ap (λ (l : LogState). l.lines.held) c.self.view_is) (c.touch.ensures.payloads ∙ ap (λ (l : LogState). l.lines.payloads) c.self.view_is)
 
 pub returns-then-has-clause-kept : goal.returns-then-has-clause-kept
 returns-then-has-clause-kept g c = λ held. same-contents c.args.self.now.lines c.touch.new.self (history (g.O.OffChip.trace c.args.bus.now))
