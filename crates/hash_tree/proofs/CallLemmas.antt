@@ -69,8 +69,12 @@ pub held-inside : (layout : Layout) (veiled : ℕ → ℕ → List ℕ → List 
     → TellsOnly layout told → Stands (scheme_of layout veiled) (state_of lines root trace) → Holds lines n → IsInside told (Tree n)
 held-inside layout veiled lines root trace n told only stands held = told-tree layout told (Tree n) only (held-below layout veiled lines root trace n stands held)
 
--- an event and its room together stay below the limit
-pub limit-kept : (event : Event) (old new : List Event) (old_room new_room : ℕ) → new ≡ old ++ event ∷ [] → new_room + 1 ≡ old_room → length old + old_room < 2 ^ 64
-    → length new + new_room < 2 ^ 64
-limit-kept event old new old_room new_room same room limit =
-    omega (arith, ap (λ (t : List Event). length t) same, length-append old (event ∷ []), room, limit)
+-- events and room together stay
+pub total-kept : (event : Event) (old new : List Event) (old_room new_room : ℕ) → new ≡ old ++ event ∷ [] → new_room + 1 ≡ old_room
+    → length new + new_room ≡ length old + old_room
+total-kept event old new old_room new_room same room =
+    omega (arith, ap (λ (t : List Event). length t) same, length-append old (event ∷ []), room)
+
+pub total-both : (event : Event) (old middle new : List Event) (old_room middle_room new_room : ℕ) → length middle + middle_room ≡ length old + old_room → new ≡ middle ++ event ∷ []
+    → new_room + 1 ≡ middle_room → length new + new_room ≡ length old + old_room
+total-both event old middle new old_room middle_room new_room first same room = total-kept event middle new middle_room new_room same room ∙ first

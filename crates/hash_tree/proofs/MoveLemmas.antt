@@ -1,11 +1,11 @@
 -- What follows where lines leave and come one after another.
-use Rattle.std.proofs.Common.{◌≡◌, ℕ, ◌<◌, Bool, true, false, List, [], ◌∷◌, ◌++◌, eqb, ◌||◌, Option, Some, None, refl, sym, ap, ◌∙◌, subst, inl, inr, ◌⊎◌}
+use Rattle.std.proofs.Common.{◌≡◌, ℕ, ◌<◌, Bool, true, false, List, [], ◌∷◌, ◌++◌, eqb, ◌||◌, Option, Some, None, refl, sym, ap, ◌∙◌, subst, inl, inr, ◌⊎◌, arith}
 use Rattle.std.specs.Prelude.{is_some, filter_map, Contains, option_to_list}
-use Rattle.std.specs.List.{list_any}
+use Rattle.std.specs.List.{All, list_any}
 use Rattle.std.proofs.lemmas.List.Folds.{list_any-append}
 use Rattle.std.proofs.lemmas.Bool.{cases_eq, cases_Bool, eq-eqb}
 use Rattle.std.proofs.lemmas.List.{append-nil, append_assoc}
-use Rattle.std.proofs.lemmas.List.Elements.{All-nil, All-push, All-weaker}
+use Rattle.std.proofs.lemmas.List.Elements.{All-append, All-contains, All-nil, All-push, All-weaker, Contains-append_right, filter_map-append}
 use Rattle.aegis_num.specs.declared.storage.Block.{Block}
 use Rattle.aegis_num.specs.declared.storage.Place.TheVariants.{Tree}
 use Rattle.off_chip.specs.declared.event.Event.{Event}
@@ -15,7 +15,7 @@ use Rattle.off_chip.specs.Histories.{history}
 use Rattle.off_chip.specs.ExpectedDigests.{expected_digest}
 use Rattle.off_chip.proofs.HistoryLemmas.{filter_map-push}
 use Rattle.line_cache.specs.declared.lines.Line.{Line}
-use Rattle.hash_tree.specs.Schemes.{Scheme, IsLawful}
+use Rattle.hash_tree.specs.Schemes.{Scheme, IsLawful, unveiled}
 use Rattle.hash_tree.specs.Standing.{State, IsDeceived, Stands, IsKeptDigest}
 use Rattle.hash_tree.specs.AsWritten.{AllAsWritten}
 use Rattle.hash_tree.specs.TreeSteps.{Appends, Inserted, IsRemoval, write, dropped, Evicted, block_read, IsMove, read, removal, Moved, Stops}
@@ -73,6 +73,7 @@ moved-none scheme pinned state stands = record {
     reads_are = refl;
     each = All-nil (IsMove pinned state state);
     checked = λ before n block rest same. nothing_in_nil _ before (BlockRead (Tree n) block) rest same;
+    line_read = λ before n block rest same leaf. nothing_in_nil _ before (BlockRead (Tree n) block) rest same;
     kept = λ n pin held. held;
     came = λ n held. inl held;
     stays = λ n leaf held still. refl;
@@ -86,6 +87,22 @@ no-read n event (dropped same) = ap (λ (e : Event). block_read e) same
 
 appended-more : (old middle new events : List Event) (event : Event) → middle ≡ old ++ events → Appends event middle new → new ≡ old ++ (events ++ event ∷ [])
 appended-more old middle new events event first last = last ∙ ap (λ (t : List Event). t ++ event ∷ []) first ∙ append_assoc old events (event ∷ [])
+
+-- what is read is pinned
+pinned-at : (pinned : List ℕ) (old new : State) (event : Event) → IsMove pinned old new event → (n : ℕ) (block : Block) → event ≡ BlockRead (Tree n) block → Contains pinned n
+pinned-at pinned old new event (read m other is pin) n block same =
+    let number : Some m ≡ Some n = ap (λ (v : Event). block_read v) (sym is ∙ same) in
+    let e : m ≡ n = cc in subst (λ (k : ℕ). Contains pinned k) e pin
+pinned-at pinned old new event (removal m is free held gone) n block same =
+    let e : None ≡ Some n = sym (no-read m event is) ∙ ap (λ (v : Event). block_read v) same in cc
+
+read-pinned : (pinned : List ℕ) (old new : State) (events before : List Event) (n : ℕ) (block : Block) (rest : List Event) → events ≡ before ++ BlockRead (Tree n) block ∷ rest
+    → All (IsMove pinned old new) events → Contains pinned n
+read-pinned pinned old new events before n block rest parts each =
+    let event : Event = BlockRead (Tree n) block in
+    let first : Contains (event ∷ rest) event = (0, omega arith, refl) in
+    let inside : Contains events event = subst (λ (xs : List Event). Contains xs event) (sym parts) (Contains-append_right before (event ∷ rest) event first) in
+    pinned-at pinned old new event (All-contains (IsMove pinned old new) events event each inside) n block refl
 
 -- one more line left
 pub moved-evicted : (scheme : Scheme) (pinned : List ℕ) (old middle new : State) (reads : List ℕ) (n : ℕ) → Moved scheme pinned old middle reads → (Contains pinned n → ⊥)
@@ -116,6 +133,13 @@ moved-evicted scheme pinned old middle new reads n moved unpinned evicted =
         checked = λ front m block rest same.
             elim (snoc-cut moves.events step.event front (BlockRead (Tree m) block) rest same) [
               | inl earlier ↦ moves.checked front m block earlier.rest earlier.parts
+              | inr last ↦ let e : None ≡ Some m = sym (no-read n step.event step.removal) ∙ ap (λ (v : Event). block_read v) last.0 in cc
+            ];
+        line_read = λ front m block rest same leaf.
+            elim (snoc-cut moves.events step.event front (BlockRead (Tree m) block) rest same) [
+              | inl earlier ↦
+                  let pin : Contains pinned m = read-pinned pinned old middle moves.events front m block earlier.rest earlier.parts moves.each in
+                  step.leaves m leaf (λ (here : m ≡ n). unpinned (subst (λ (k : ℕ). Contains pinned k) here pin)) ∙ moves.line_read front m block earlier.rest earlier.parts leaf
               | inr last ↦ let e : None ≡ Some m = sym (no-read n step.event step.removal) ∙ ap (λ (v : Event). block_read v) last.0 in cc
             ];
         kept = λ m pin held.
@@ -175,6 +199,19 @@ moved-inserted scheme lawful pinned old middle new reads n block moved pin below
                   ∙ kept-expected scheme middle n (scheme.digests.digest n block) moved.stands below kept
                   ∙ ap (λ (k : ℕ). Some (scheme.digests.digest k block)) e ∙ ap (λ (b : Block). Some (scheme.digests.digest m b)) f
             ];
+        line_read = λ front m other rest same leaf.
+            elim (snoc-cut moves.events event front (BlockRead (Tree m) other) rest same) [
+              | inl earlier ↦
+                  let at : middle.lines m ≡ Some (record { payload = unveiled scheme m other; dirty = false }) = moves.line_read front m other earlier.rest earlier.parts leaf in
+                  step.lines.other m (λ (here : m ≡ n). none-held (middle.lines m) (ap (λ (k : ℕ). middle.lines k) here ∙ none) (ap (λ (o : Option Line). is_some o) at)) ∙ at
+              | inr last ↦
+                  let number : Some n ≡ Some m = ap (λ (v : Event). block_read v) last.0 in
+                  let e : n ≡ m = cc in
+                  let f : block ≡ other = read-block n m block other last.0 in
+                  ap (λ (k : ℕ). new.lines k) (sym e) ∙ step.lines.here
+                  ∙ ap (λ (k : ℕ). Some (record { payload = unveiled scheme k block; dirty = false })) e
+                  ∙ ap (λ (b : Block). Some (record { payload = unveiled scheme m b; dirty = false })) f
+            ];
         kept = λ m pin held.
             elim (cases_eq m n) [
               | inl here ↦ ap (λ (o : Option Line). is_some o) (ap (λ (k : ℕ). new.lines k) here ∙ step.lines.here)
@@ -207,6 +244,104 @@ moved-inserted scheme lawful pinned old middle new reads n block moved pin below
     later event (read m read_block same pinned_m) = read m read_block same pinned_m
     later event (removal m is free held gone) =
         removal m is free held (step.lines.other m (λ (here : m ≡ n). free (subst (λ (k : ℕ). Contains pinned k) (sym here) pin)) ∙ gone)
+
+-- two lists, cut at an element of the second
+record InBack (xs ys before : List Event) (y : Event) (rest : List Event) : Type 0 where
+  middle : List Event
+  parts : ys ≡ middle ++ y ∷ rest
+  front : before ≡ xs ++ middle
+
+append-cut : (xs ys before : List Event) (y : Event) (rest : List Event) → xs ++ ys ≡ before ++ y ∷ rest → InFront xs before y ⊎ InBack xs ys before y rest
+append-cut [] ys before y rest same = inr (record { middle = before; parts = same; front = refl })
+append-cut (w ∷ xs) ys [] y rest same = let e : w ≡ y = cc in inl (record { rest = xs; parts = ap (λ (v : Event). v ∷ xs) e })
+append-cut (w ∷ xs) ys (z ∷ before) y rest same =
+    let e : w ≡ z = cc in
+    let f : xs ++ ys ≡ before ++ y ∷ rest = cc in
+    elim (append-cut xs ys before y rest f) [
+      | inl cut ↦ inl (record { rest = cut.rest; parts = ap (λ (v : Event). v ∷ xs) e ∙ ap (λ (vs : List Event). z ∷ vs) cut.parts })
+      | inr cut ↦ inr (record { middle = cut.middle; parts = cut.parts; front = ap (λ (v : Event). v ∷ before) (sym e) ∙ ap (λ (vs : List Event). w ∷ vs) cut.front })
+    ]
+
+-- one part of a load after another
+pub moved-both : (scheme : Scheme) (pinned : List ℕ) (old middle new : State) (first second : List ℕ) → Moved scheme pinned old middle first → Moved scheme pinned middle new second
+    → Moved scheme pinned old new (first ++ second)
+moved-both scheme pinned old middle new first second one two =
+    let a = one.moves in
+    let b = two.moves in
+    let gone : (m : ℕ) → (Contains pinned m → ⊥) → middle.lines m ≡ None → new.lines m ≡ None =
+    (λ (m : ℕ) (free : Contains pinned m → ⊥) (none : middle.lines m ≡ None). held-none (new.lines m) (λ (held : is_some (new.lines m) ≡ true).
+    elim (b.came m held) [ inl before ↦ none-held (middle.lines m) none before | inr came ↦ free came.0 ])) in
+    let before : (m : ℕ) → (Contains pinned m → ⊥) → is_some (middle.lines m) ≡ true → is_some (old.lines m) ≡ true =
+    (λ (m : ℕ) (free : Contains pinned m → ⊥) (held : is_some (middle.lines m) ≡ true). elim (a.came m held) [ inl before ↦ before | inr came ↦ absurd (free came.0) ]) in
+    record {
+      stands = two.stands;
+      contents = keeps-both scheme old middle new one.contents two.contents two.deceived;
+      moves = record {
+        events = a.events ++ b.events;
+        appended = b.appended ∙ ap (λ (t : List Event). t ++ b.events) a.appended ∙ append_assoc old.trace a.events b.events;
+        reads_are = filter_map-append block_read a.events b.events ∙ ap (λ (xs : List ℕ). xs ++ filter_map block_read b.events) a.reads_are
+            ∙ ap (λ (xs : List ℕ). first ++ xs) b.reads_are;
+        each = All-append (IsMove pinned old new) a.events b.events
+            (All-weaker (IsMove pinned old middle) (IsMove pinned old new) (λ (event : Event) (move : IsMove pinned old middle event). earlier event move gone) a.events a.each)
+            (All-weaker (IsMove pinned middle new) (IsMove pinned old new) (λ (event : Event) (move : IsMove pinned middle new event). later event move before) b.events b.each);
+        checked = λ front n block rest same.
+            elim (append-cut a.events b.events front (BlockRead (Tree n) block) rest same) [
+              | inl cut ↦ a.checked front n block cut.rest cut.parts
+              | inr cut ↦
+                  ap (λ (t : List Event). expected_digest scheme.digests n (history t)) (ap (λ (vs : List Event). old.trace ++ vs) cut.front
+                  ∙ sym (append_assoc old.trace a.events cut.middle) ∙ ap (λ (t : List Event). t ++ cut.middle) (sym a.appended))
+                  ∙ b.checked cut.middle n block rest cut.parts
+            ];
+        line_read = λ front n block rest same leaf.
+            elim (append-cut a.events b.events front (BlockRead (Tree n) block) rest same) [
+              | inl cut ↦
+                  let at : middle.lines n ≡ Some (record { payload = unveiled scheme n block; dirty = false }) = a.line_read front n block cut.rest cut.parts leaf in
+                  let held : is_some (middle.lines n) ≡ true = ap (λ (o : Option Line). is_some o) at in
+                  let pin : Contains pinned n = read-pinned pinned old middle a.events front n block cut.rest cut.parts a.each in
+                  b.stays n leaf held (b.kept n pin held) ∙ at
+              | inr cut ↦ b.line_read cut.middle n block rest cut.parts leaf
+            ];
+        kept = λ n pin held. b.kept n pin (a.kept n pin held);
+        came = λ n held.
+            elim (b.came n held) [
+              | inl mid ↦
+                  elim (a.came n mid) [
+                    | inl held_before ↦ inl held_before
+                    | inr came ↦ inr (came.0, list_any-append (λ (k : ℕ). eqb k n) first second ∙ or-left (list_any (λ (k : ℕ). eqb k n) first) (list_any (λ (k : ℕ). eqb k n) second) came.1)
+                  ]
+              | inr came ↦ inr (came.0, list_any-append (λ (k : ℕ). eqb k n) first second ∙ or-right (list_any (λ (k : ℕ). eqb k n) first) (list_any (λ (k : ℕ). eqb k n) second) came.1)
+            ];
+        stays = λ n leaf held now.
+            let mid : is_some (middle.lines n) ≡ true = elim (b.came n now) [ inl mid ↦ mid | inr came ↦ a.kept n came.0 held ] in
+            b.stays n leaf mid now ∙ a.stays n leaf held mid;
+      };
+      deceived = λ deceived. two.deceived (one.deceived deceived);
+    }
+  where
+    earlier : (event : Event) → IsMove pinned old middle event → ((m : ℕ) → (Contains pinned m → ⊥) → middle.lines m ≡ None → new.lines m ≡ None) → IsMove pinned old new event
+    earlier event (read m block same pin) gone = read m block same pin
+    earlier event (removal m is free held none) gone = removal m is free held (gone m free none)
+    later : (event : Event) → IsMove pinned middle new event → ((m : ℕ) → (Contains pinned m → ⊥) → is_some (middle.lines m) ≡ true → is_some (old.lines m) ≡ true)
+        → IsMove pinned old new event
+    later event (read m block same pin) before = read m block same pin
+    later event (removal m is free held none) before = removal m is free (before m free held) none
+
+-- a load that stops after a part of it
+pub stops-later : (scheme : Scheme) (pinned : List ℕ) (old middle new : State) (first : List ℕ) (event : ℕ) → Moved scheme pinned old middle first → Stops scheme pinned middle new event
+    → Stops scheme pinned old new event
+stops-later scheme pinned old middle new first event moved stops = record {
+  middle = stops.middle;
+  reads = first ++ stops.reads;
+  moved = moved-both scheme pinned old middle stops.middle first stops.reads moved stops.moved;
+  n = stops.n;
+  block = stops.block;
+  read = stops.read;
+  number = stops.number;
+  kept = stops.kept;
+  is_kept = stops.is_kept;
+  differs = stops.differs;
+  inside = stops.inside;
+}
 
 -- where nothing was read, no line came
 pub still-absent : (scheme : Scheme) (pinned : List ℕ) (old new : State) (n : ℕ) → Moved scheme pinned old new [] → is_some (old.lines n) ≡ false → is_some (new.lines n) ≡ false

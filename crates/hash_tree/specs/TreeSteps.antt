@@ -119,6 +119,9 @@ pub record Moves (scheme : Scheme) (pinned : List ℕ) (old new : State) (reads 
   -- each read gives a block with the expected digest
   pub checked : (before : List Event) (n : ℕ) (block : Block) (rest : List Event) → events ≡ before ++ BlockRead (Tree n) block ∷ rest
       → expected_digest scheme.digests n (history (old.trace ++ before)) ≡ Some (scheme.digests.digest n block)
+  -- where a block that was read is no node, its line has the payload of that read with the veil removed
+  pub line_read : (before : List Event) (n : ℕ) (block : Block) (rest : List Event) → events ≡ before ++ BlockRead (Tree n) block ∷ rest → scheme.nodes ≤ n
+      → new.lines n ≡ Some (record { payload = unveiled scheme n block; dirty = false })
   -- pinned blocks keep their lines, and none but those of the blocks that were read come
   pub kept : (n : ℕ) → Contains pinned n → is_some (old.lines n) ≡ true → is_some (new.lines n) ≡ true
   pub came : (n : ℕ) → is_some (new.lines n) ≡ true → (is_some (old.lines n) ≡ true) ⊎ (Contains pinned n × (list_any (λ m. m == n) reads ≡ true))
@@ -148,6 +151,11 @@ pub record TellsKept (scheme : Scheme) (lines : LineMap) (root : List ℕ) (n : 
   pub is_kept : (trace : List Event) → IsKeptDigest scheme (state_of lines root trace) n kept
   pub same : answer ≡ true → digest ≡ kept
   pub differs : answer ≡ false → digest ≢ kept
+
+-- nothing was done on the bus, and the lines are as before
+pub record IsStill (old new : LineMap) (old_trace new_trace : List Event) : Type 0 where
+  pub lines : new ≡ old
+  pub trace : new_trace ≡ old_trace
 
 -- of these blocks those that have no line
 abbrev pub uncached : Held → List ℕ → List ℕ

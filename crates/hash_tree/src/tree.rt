@@ -1,6 +1,6 @@
 //! The cached hash tree, after Suh et al., "AEGIS: Architecture for Tamper-Evident and Tamper-Resistant Processing",
 //! ICS 2003. Its numbers are this project's own.
-ghost use Rattle.std.specs.Prelude.{◌≡◌, ℕ, ◌+◌, ◌*◌, ◌^◌, ◌<◌, ◌≤◌, ◌∷◌, false, Contains, IfErr, IfOk, List, [], Some, length, IsTrue};
+ghost use Rattle.std.specs.Prelude.{◌≡◌, ℕ, ◌+◌, ◌*◌, ◌^◌, ◌<◌, ◌≤◌, ◌∷◌, false, Contains, IfErr, IfOk, IsOk, List, [], Some, length, IsTrue};
 ghost use Rattle.std.specs.Borrow.{Lends, sem, u8 as byte, Array};
 ghost use Rattle.std.specs.FinMap.{contains_key, empty, len};
 ghost use Rattle.regions.specs.Tree.{leaf_of, parent_in, positions_of, slot_in, tree_blocks};
@@ -14,7 +14,7 @@ ghost use Rattle.off_chip.specs.WriteBacks.{StampsFit};
 ghost use Rattle.hash_tree.specs.HashTrees.{nodes_of, scheme_of, state_of};
 ghost use Rattle.hash_tree.specs.contracts.tree.Tree.{the_row};
 ghost use Rattle.hash_tree.specs.TreeParts.{SameTree, StandsOn, with_lines};
-ghost use Rattle.hash_tree.specs.TreeSteps.{Evicted, KeepsDigest, Moved, Reads, Stops, TellsKept, WritesBack, uncached};
+ghost use Rattle.hash_tree.specs.TreeSteps.{Evicted, IsStill, KeepsDigest, Moved, Reads, Stops, TellsKept, WritesBack, uncached};
 ghost use Rattle.hash_tree.specs.CachedLines.{held_in};
 
 use crate::veil::Veil;
@@ -142,7 +142,7 @@ impl<L: Lines, V: Veil> Tree<L, V> {
         ensures fit { StampsFit stamps.new (history (O.trace bus.new)) }
         ensures count { len (L.lines self.new.lines) + 1 ≡ len (L.lines self.old.lines) }
         ensures room { O.room bus.new + 1 ≡ O.room bus.old }
-        ensures limit { length (O.trace bus.new) + O.room bus.new < 2 ^ 64 }
+        ensures total { length (O.trace bus.new) + O.room bus.new ≡ length (O.trace bus.old) + O.room bus.old }
         ensures same { O.same_memory bus.old bus.new }
     {
         if self.lines.dirty(block) {
@@ -170,7 +170,7 @@ impl<L: Lines, V: Veil> Tree<L, V> {
         ensures ready { IsTrue (L.has_room self.new.lines block) }
         ensures room { O.room bus.new + len (L.lines self.old.lines)
             ≡ O.room bus.old + len (L.lines self.new.lines) }
-        ensures limit { length (O.trace bus.new) + O.room bus.new < 2 ^ 64 }
+        ensures total { length (O.trace bus.new) + O.room bus.new ≡ length (O.trace bus.old) + O.room bus.old }
         ensures same { O.same_memory bus.old bus.new }
     {
         while let Some(victim) = self.lines.victim(block, pins) {
@@ -204,6 +204,12 @@ impl<L: Lines, V: Veil> Tree<L, V> {
         ensures changed { IfErr result (λ changed. Stops (scheme_of self.old.layout (V.veiled self.old.veil)) pins.now.blocks.items
             (state_of (L.lines self.old.lines) self.old.root (O.trace bus.old))
             (state_of (L.lines self.new.lines) self.new.root (O.trace bus.new)) changed.event) }
+        ensures still { Holds (L.lines self.old.lines) block → IsOk result
+            × IsStill (L.lines self.old.lines) (L.lines self.new.lines) (O.trace bus.old) (O.trace bus.new) }
+        ensures room { IfOk result (λ _. O.room bus.old + len (L.lines self.new.lines)
+            ≤ O.room bus.new + len (L.lines self.old.lines) + 2) }
+        ensures few { O.room bus.old ≤ O.room bus.new + len (L.lines self.old.lines) + 2 }
+        ensures total { length (O.trace bus.new) + O.room bus.new ≡ length (O.trace bus.old) + O.room bus.old }
         ensures fit { StampsFit stamps.new (history (O.trace bus.new)) }
         ensures same { O.same_memory bus.old bus.new }
     {

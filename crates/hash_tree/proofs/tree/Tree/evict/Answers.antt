@@ -1,6 +1,6 @@
 use Rattle.std.proofs.Common.{◌<◌, ◌^◌, refl, ap, arith}
 use Rattle.hash_tree.specs.TreeParts.{TreeParts}
-use Rattle.hash_tree.proofs.CallLemmas.{held-inside, limit-kept, stamps-below}
+use Rattle.hash_tree.proofs.CallLemmas.{held-inside, total-kept, stamps-below}
 use Rattle.hash_tree.proofs.SchemeLemmas.{keeps-veil}
 use Rattle.hash_tree.proofs.WriteBackLemmas.{fits-other}
 use Rattle.hash_tree.proofs.EvictLemmas.{evicted-written, evicted-dropped, back-fits, count-removed}
@@ -47,8 +47,8 @@ returns-else-dirty-clause-count g c =
     let held = rw (← c.self.view_is) at c.requires.held in
     rw (← c.self.view_is) (count-removed _ _ _ c.args.block c.remove-else-dirty.ensures.lines held refl)
 
-pub returns-then-dirty-clause-limit : goal.returns-then-dirty-clause-limit
-returns-then-dirty-clause-limit g c = limit-kept _ _ _ _ _ c.write_back.ensures.step.step.event c.write_back.ensures.room c.requires.limit
+pub returns-then-dirty-clause-total : goal.returns-then-dirty-clause-total
+returns-then-dirty-clause-total g c = total-kept _ _ _ _ _ c.write_back.ensures.step.step.event c.write_back.ensures.room
 
-pub returns-else-dirty-clause-limit : goal.returns-else-dirty-clause-limit
-returns-else-dirty-clause-limit g c = limit-kept _ _ _ _ _ c.note.ensures.event.trace c.note.ensures.event.room c.requires.limit
+pub returns-else-dirty-clause-total : goal.returns-else-dirty-clause-total
+returns-else-dirty-clause-total g c = total-kept _ _ _ _ _ c.note.ensures.event.trace c.note.ensures.event.room

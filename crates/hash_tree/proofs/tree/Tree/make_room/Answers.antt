@@ -9,7 +9,7 @@ loop-victim-init g c = record {
   does = moved-none _ _ _ c.requires.stands;
   fit = c.requires.fit;
   room = refl;
-  limit = c.requires.limit;
+  total = refl;
   same = g.met.O.OffChip.reflexive _;
 }
 
@@ -18,6 +18,9 @@ evict-requires-clause-has_room g c =
     let some = len-held _ _ c.in-Some.ensures.some.held in
     let room = rw (← c.self.view_is) at c.loop-victim.invariant.room in
     omega (arith, some, room, c.requires.has_room)
+
+pub evict-requires-clause-limit : goal.evict-requires-clause-limit
+evict-requires-clause-limit g c = omega (arith, c.loop-victim.invariant.total, c.requires.limit)
 
 pub loop-victim-preserved : goal.loop-victim-preserved
 loop-victim-preserved g c =
@@ -28,6 +31,6 @@ loop-victim-preserved g c =
       does = moved-evicted _ _ _ _ _ _ c.in-Some.victim inv.does c.in-Some.ensures.some.unpinned evicted;
       fit = c.evict.ensures.fit;
       room = omega (arith, inv.room, c.evict.ensures.room, c.evict.ensures.count);
-      limit = c.evict.ensures.limit;
+      total = c.evict.ensures.total ∙ inv.total;
       same = g.met.O.OffChip.transitive _ _ _ inv.same c.evict.ensures.same;
     }

@@ -1,4 +1,4 @@
-use Rattle.std.proofs.Common.{◌≡◌, ◌+◌, ◌<◌, ◌^◌, [], length}
+use Rattle.std.proofs.Common.{◌≡◌, ◌+◌, [], length}
 use Rattle.std.specs.FinMap.{len}
 use Rattle.off_chip.specs.Histories.{history}
 use Rattle.off_chip.specs.WriteBacks.{StampsFit}
@@ -15,7 +15,7 @@ invariant-loop-victim g l = record {
       (state_of (g.L.Lines.lines l.self.lines) l.self.root (g.O.OffChip.trace l.bus)) [];
   fit : StampsFit l.stamps (history (g.O.OffChip.trace l.bus));
   room : g.O.OffChip.room l.bus + len (g.L.Lines.lines l.initial.self.lines) ≡ g.O.OffChip.room l.initial.bus + len (g.L.Lines.lines l.self.lines);
-  limit : length (g.O.OffChip.trace l.bus) + g.O.OffChip.room l.bus < 2 ^ 64;
+  total : length (g.O.OffChip.trace l.bus) + g.O.OffChip.room l.bus ≡ length (g.O.OffChip.trace l.initial.bus) + g.O.OffChip.room l.initial.bus;
   same : g.O.OffChip.same_memory l.initial.bus l.bus;
 }
 
