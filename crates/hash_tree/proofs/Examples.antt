@@ -1,7 +1,8 @@
 -- One tree of a node and three data blocks, and what each definition says of it. The answers were worked out by hand from the rules.
 -- In this tree a digest is the number of the block and its stamp, so that two payloads have one digest, and the veil turns a payload round.
-use Rattle.std.proofs.Common.{◌≡◌, ℕ, zero, suc, ◌-◌, ◌*◌, ◌/◌, ◌<◌, true, false, List, [], ◌∷◌, ◌++◌, take, drop, replicate, reverse, get_or, Some, None, refl, ap, inl, inr, ◌⊎◌, lit<, arith}
+use Rattle.std.proofs.Common.{◌≡◌, ℕ, zero, suc, ◌-◌, ◌*◌, ◌/◌, ◌<◌, ◌≤◌, true, false, List, [], ◌∷◌, ◌++◌, take, drop, replicate, reverse, get_or, Some, None, refl, ap, inl, inr, ◌⊎◌, lit≤, lit<, arith}
 use Rattle.std.specs.Prelude.{if◌then◌else◌, nat_lt}
+use Rattle.std.specs.FinMap.{empty}
 use Rattle.aegis_num.specs.declared.storage.Block.{Block}
 use Rattle.aegis_num.specs.declared.storage.Place.TheVariants.{Tree, Log}
 use Rattle.off_chip.specs.declared.event.Event.{Event}
@@ -13,7 +14,8 @@ use Rattle.hash_tree.specs.CachedLines.{Held}
 use Rattle.hash_tree.specs.Schemes.{Scheme}
 use Rattle.hash_tree.specs.AsWritten.{is_as_written}
 use Rattle.hash_tree.specs.Standing.{State, kept_payload, contents, IsHome, IsDeceived, is_written_last, IsPadded, NodeLaidOut, IsKeptDigest, on_chip, in_parent}
-use Rattle.hash_tree.specs.TreeSteps.{IsRemoval, write, dropped, block_read, IsElsewhere}
+use Rattle.hash_tree.specs.TreeSteps.{IsRemoval, write, dropped, block_read, IsElsewhere, IsStill, uncached}
+use Rattle.hash_tree.specs.Paths.{IsAtDepth, path_in}
 
 abbrev tree : Scheme
 tree = record {
@@ -238,3 +240,35 @@ log-elsewhere n same = cc
 
 tree-not_elsewhere : IsElsewhere (Note (Drop (Tree 1))) → ⊥
 tree-not_elsewhere elsewhere = elsewhere 1 refl
+
+-- ---- paths: in the tree of height 2, block 9 is child 2 of block 2
+
+path-root : path_in 3 0 0 ≡ 0 ∷ []
+path-root = refl
+
+path-two : path_in 3 2 9 ≡ 0 ∷ 2 ∷ 9 ∷ []
+path-two = refl
+
+path-last : path_in 3 2 12 ≡ 0 ∷ 3 ∷ 12 ∷ []
+path-last = refl
+
+depth-two : IsAtDepth 3 2 4
+depth-two = record { from = lit≤ tt; below = lit< tt }
+
+depth-above : IsAtDepth 3 2 3 → ⊥
+depth-above at = let from : 4 ≤ 3 = at.from in let no_such : ⊥ = omega (arith, from) in no_such
+
+depth-under : IsAtDepth 3 1 4 → ⊥
+depth-under at = let below : 4 < 4 = at.below in let no_such : ⊥ = omega (arith, below) in no_such
+
+-- only blocks without a line are read, in order
+uncached-three : uncached lines_loaded (0 ∷ 2 ∷ 1 ∷ 3 ∷ []) ≡ 2 ∷ 3 ∷ []
+uncached-three = refl
+
+uncached-none : uncached lines_loaded (0 ∷ 1 ∷ []) ≡ []
+uncached-none = refl
+
+-- ---- nothing done
+
+still-nothing : IsStill empty empty loading loading
+still-nothing = record { lines = refl; trace = refl }

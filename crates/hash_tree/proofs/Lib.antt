@@ -8,6 +8,8 @@ pub mod SchemeLemmas
 pub mod CallLemmas
 pub mod EvictLemmas
 pub mod MoveLemmas
+pub mod PathLemmas
+pub mod PathLoads
 pub mod KeptLemmas
 mod Examples
 pub mod LoadLemmas

@@ -1,6 +1,7 @@
 pub mod AsWritten
 pub mod CachedLines
 pub mod HashTrees
+pub mod Paths
 pub mod Schemes
 pub mod Standing
 pub mod TreeParts

@@ -1,6 +1,6 @@
 //! The cached hash tree, after Suh et al., "AEGIS: Architecture for Tamper-Evident and Tamper-Resistant Processing",
 //! ICS 2003. Its numbers are this project's own.
-ghost use Rattle.std.specs.Prelude.{◌≡◌, ℕ, ◌+◌, ◌*◌, ◌^◌, ◌<◌, ◌≤◌, ◌∷◌, false, Contains, IfErr, IfOk, IsOk, List, [], Some, length, IsTrue};
+ghost use Rattle.std.specs.Prelude.{◌≡◌, ℕ, ◌+◌, ◌*◌, ◌^◌, ◌<◌, ◌≤◌, ◌∷◌, ◌++◌, false, Contains, IfErr, IfOk, IsOk, List, [], Some, length, IsTrue};
 ghost use Rattle.std.specs.Borrow.{Lends, sem, u8 as byte, Array};
 ghost use Rattle.std.specs.FinMap.{contains_key, empty, len};
 ghost use Rattle.regions.specs.Tree.{leaf_of, parent_in, positions_of, slot_in, tree_blocks};
@@ -11,18 +11,21 @@ ghost use Rattle.off_chip.specs.BusCalls.{TellsOnly};
 ghost use Rattle.off_chip.specs.HonestMemory.{IsWhole};
 ghost use Rattle.off_chip.specs.Histories.{history};
 ghost use Rattle.off_chip.specs.WriteBacks.{StampsFit};
+ghost use Rattle.hash_tree.specs.AsWritten.{AllAsWritten};
 ghost use Rattle.hash_tree.specs.HashTrees.{nodes_of, scheme_of, state_of};
 ghost use Rattle.hash_tree.specs.contracts.tree.Tree.{the_row};
 ghost use Rattle.hash_tree.specs.TreeParts.{SameTree, StandsOn, with_lines};
+ghost use Rattle.hash_tree.specs.Paths.{IsAtDepth, path_in, path_of};
 ghost use Rattle.hash_tree.specs.TreeSteps.{Evicted, IsStill, KeepsDigest, Moved, Reads, Stops, TellsKept, WritesBack, uncached};
 ghost use Rattle.hash_tree.specs.CachedLines.{held_in};
 
 use crate::veil::Veil;
 use aegis_num::{Block, Place, Stamps};
+use arrayvec::ArrayVec;
 use block_hash::block_digest;
 use line_cache::{Lines, Pins};
 use off_chip::{Mark, OffChip};
-use regions::{Layout, leaf};
+use regions::{Layout, height, leaf};
 use std::marker::Model;
 
 // How many children a node has.
@@ -74,6 +77,58 @@ impl<L: Lines, V: Veil> Tree<L, V> {
             layout,
             root: [0; 20],
         }
+    }
+
+    /// Gives the data block at a position a line, and each block of its path, by reads of those that have none, from the root
+    /// down. Where a block is read whose digest is not the one that is kept of it, the tree is not to be used again.
+    /// The path and the pinned blocks keep their lines; of pinned blocks there are at most 9, with their parents.
+    pub fn load<O: OffChip>(
+        &mut self,
+        bus: &mut O,
+        stamps: &mut Stamps,
+        position: u32,
+        pins: &Pins,
+    ) -> Result<(), Changed>
+        requires position { position < positions_of self.old.layout }
+        requires parents { HoldParents pins.now.blocks.items }
+        requires few_pins { length pins.now.blocks.items ≤ 9 }
+        requires stands { StandsOn self.old (L.lines self.old.lines) (V.veiled self.old.veil) (O.trace bus.old) }
+        requires fit { StampsFit stamps.old (history (O.trace bus.old)) }
+        requires has_room { 160 ≤ O.room bus.old }
+        requires told { TellsOnly self.old.layout (O.layout bus.old) }
+        ensures tree { SameTree self.old self.new }
+        ensures stands { IfOk result (λ _. StandsOn self.new (L.lines self.new.lines) (V.veiled self.new.veil) (O.trace bus.new)) }
+        ensures held { IfOk result (λ _. Holds (L.lines self.new.lines) (leaf_of self.old.layout position)) }
+
+        // Its events, what they leave of the lines, and that contents are kept.
+        ensures ok { IfOk result (λ _. Moved (scheme_of self.old.layout (V.veiled self.old.veil))
+            (pins.now.blocks.items ++ path_of self.old.layout position)
+            (state_of (L.lines self.old.lines) self.old.root (O.trace bus.old))
+            (state_of (L.lines self.new.lines) self.new.root (O.trace bus.new))
+            (uncached (held_in (L.lines self.old.lines)) (path_of self.old.layout position))) }
+
+        // Nothing is done where the block has a line.
+        ensures still { Holds (L.lines self.old.lines) (leaf_of self.old.layout position) → IsOk result
+            × IsStill (L.lines self.old.lines) (L.lines self.new.lines) (O.trace bus.old) (O.trace bus.new) }
+
+        // It stops at the last event, a read of a block with another digest than the one that is kept.
+        ensures changed { IfErr result (λ changed. Stops (scheme_of self.old.layout (V.veiled self.old.veil))
+            (pins.now.blocks.items ++ path_of self.old.layout position)
+            (state_of (L.lines self.old.lines) self.old.root (O.trace bus.old))
+            (state_of (L.lines self.new.lines) self.new.root (O.trace bus.new)) changed.event) }
+
+        // It does not where each read was faithful.
+        ensures honest { AllAsWritten (history (O.trace bus.new)) → IsOk result }
+        ensures few { length (O.trace bus.new) ≤ length (O.trace bus.old) + 160 }
+        ensures total { length (O.trace bus.new) + O.room bus.new ≡ length (O.trace bus.old) + O.room bus.old }
+        ensures fit { StampsFit stamps.new (history (O.trace bus.new)) }
+        ensures same { O.same_memory bus.old bus.new }
+    {
+        let _events = bus.events();
+        let block = leaf(&self.layout, position);
+        let depth = height(&self.layout);
+        let pinned = with_path(pins, block, depth);
+        self.load_path(bus, stamps, block, depth, &pinned)
     }
 
     /// The payload of a data block that has a line.
@@ -176,6 +231,49 @@ impl<L: Lines, V: Veil> Tree<L, V> {
         while let Some(victim) = self.lines.victim(block, pins) {
             self.evict(bus, stamps, victim);
         }
+    }
+
+    // Gives each block of a path a line, from the root down to a block that stands so many steps below it.
+    fn load_path<O: OffChip>(
+        &mut self,
+        bus: &mut O,
+        stamps: &mut Stamps,
+        block: u32,
+        depth: u32,
+        pins: &Pins,
+    ) -> Result<(), Changed>
+        requires depth { IsAtDepth 3 depth block }
+        requires inside { block < tree_blocks self.old.layout }
+        requires pinned { Contains pins.now.blocks.items block }
+        requires parents { HoldParents pins.now.blocks.items }
+        requires stands { StandsOn self.old (L.lines self.old.lines) (V.veiled self.old.veil) (O.trace bus.old) }
+        requires fit { StampsFit stamps.old (history (O.trace bus.old)) }
+        requires has_room { len (L.lines self.old.lines) + 2 * (depth + 1) ≤ O.room bus.old }
+        requires limit { length (O.trace bus.old) + O.room bus.old < 2 ^ 64 }
+        requires told { TellsOnly self.old.layout (O.layout bus.old) }
+        ensures tree { SameTree self.old self.new }
+        ensures ok { IfOk result (λ _. Moved (scheme_of self.old.layout (V.veiled self.old.veil)) pins.now.blocks.items
+            (state_of (L.lines self.old.lines) self.old.root (O.trace bus.old))
+            (state_of (L.lines self.new.lines) self.new.root (O.trace bus.new))
+            (uncached (held_in (L.lines self.old.lines)) (path_in 3 depth block))) }
+        ensures held { IfOk result (λ _. Holds (L.lines self.new.lines) block) }
+        ensures changed { IfErr result (λ changed. Stops (scheme_of self.old.layout (V.veiled self.old.veil)) pins.now.blocks.items
+            (state_of (L.lines self.old.lines) self.old.root (O.trace bus.old))
+            (state_of (L.lines self.new.lines) self.new.root (O.trace bus.new)) changed.event) }
+        ensures still { Holds (L.lines self.old.lines) block → IsOk result
+            × IsStill (L.lines self.old.lines) (L.lines self.new.lines) (O.trace bus.old) (O.trace bus.new) }
+        ensures room { IfOk result (λ _. O.room bus.old + len (L.lines self.new.lines)
+            ≤ O.room bus.new + len (L.lines self.old.lines) + 2 * (depth + 1)) }
+        ensures few { O.room bus.old ≤ O.room bus.new + len (L.lines self.old.lines) + 2 * (depth + 1) }
+        ensures total { length (O.trace bus.new) + O.room bus.new ≡ length (O.trace bus.old) + O.room bus.old }
+        ensures fit { StampsFit stamps.new (history (O.trace bus.new)) }
+        ensures same { O.same_memory bus.old bus.new }
+    {
+        if depth == 0 {
+            return self.load_block(bus, stamps, block, pins);
+        }
+        self.load_path(bus, stamps, parent_of(block), depth - 1, pins)?;
+        self.load_block(bus, stamps, block, pins)
     }
 
     // Gives a block a line whose parent has one: by a read, where it has none yet.
@@ -294,6 +392,34 @@ fn digest_of(number: u32, payload: &[u8; 64], stamp: u64) -> [u8; 20]
         stamp,
     };
     block_digest(number, &block)
+}
+
+// The pinned blocks, and each block of the path down to a block that stands so many steps below the root.
+fn with_path(pins: &Pins, block: u32, depth: u32) -> Pins
+    requires depth { IsAtDepth 3 depth block }
+    requires few { length pins.now.blocks.items + depth + 1 ≤ 18 }
+    ensures blocks { result.blocks.items ≡ pins.now.blocks.items ++ path_in 3 depth block }
+{
+    let mut blocks = ArrayVec::new();
+    blocks
+        .try_extend_from_slice(pins.blocks.as_slice())
+        .unwrap();
+    let mut pinned = Pins { blocks };
+    pin_path(&mut pinned, block, depth);
+    pinned
+}
+
+// Pins a path, from the root down.
+fn pin_path(pins: &mut Pins, block: u32, depth: u32)
+    requires depth { IsAtDepth 3 depth block }
+    requires few { length pins.old.blocks.items + depth + 1 ≤ 18 }
+    ensures blocks { pins.new.blocks.items ≡ pins.old.blocks.items ++ path_in 3 depth block }
+    ensures count { length pins.new.blocks.items ≡ length pins.old.blocks.items + depth + 1 }
+{
+    if depth > 0 {
+        pin_path(pins, parent_of(block), depth - 1);
+    }
+    pins.blocks.push(block);
 }
 
 // The node above a block that is not the root.
