@@ -321,6 +321,7 @@ moved-both scheme pinned old middle new first second one two =
     earlier : (event : Event) → IsMove pinned old middle event → ((m : ℕ) → (Contains pinned m → ⊥) → middle.lines m ≡ None → new.lines m ≡ None) → IsMove pinned old new event
     earlier event (read m block same pin) gone = read m block same pin
     earlier event (removal m is free held none) gone = removal m is free held (gone m free none)
+
     later : (event : Event) → IsMove pinned middle new event → ((m : ℕ) → (Contains pinned m → ⊥) → is_some (middle.lines m) ≡ true → is_some (old.lines m) ≡ true)
         → IsMove pinned old new event
     later event (read m block same pin) before = read m block same pin
