@@ -56,7 +56,7 @@ zeros-last last (suc n) start m below =
     let before : List Event = start ++ zeros_written last n in
     let e : history (start ++ (zeros_written last n ++ BlockWrite (Log n) block ∷ [])) ≡ BlockWrite (Log n) block ◂ history before =
     history-appended before (start ++ (zeros_written last n ++ BlockWrite (Log n) block ∷ [])) (BlockWrite (Log n) block)
-        (sym (append_assoc start (zeros_written last n) (BlockWrite (Log n) block ∷ []))) in
+    (sym (append_assoc start (zeros_written last n) (BlockWrite (Log n) block ∷ []))) in
     let here : last_write (Log m) (BlockWrite (Log n) block ◂ history before) ≡ Some (stamped zero_payload (last + suc m)) = elim (cases_Bool (eqb m n)) [
       | inl equal ↦ subst (λ (k : ℕ). last_write (Log k) (BlockWrite (Log n) block ◂ history before) ≡ Some (stamped zero_payload (last + suc k))) (sym (eqb-true m n equal))
           (last_write-here (Log n) block (history before))
@@ -201,8 +201,13 @@ ends-length value blocks before after result (EndsCheck.passes compared reads ag
     omega (arith, reads-length blocks before compared reads, ap (λ (t : List Event). length t) appended, length-append compared (Note CheckPassed ∷ []))
 ends-length value blocks before after result (EndsCheck.differs read written reads differ answer) = omega (arith, reads-length blocks before after reads)
 ends-length value blocks before after result (EndsCheck.stops event stopped answer) =
-    omega (arith, reads-length stopped.n before stopped.middle stopped.earlier, ap (λ (t : List Event). length t) stopped.last,
-    length-append stopped.middle (BlockRead (Log stopped.n) stopped.block ∷ []), stopped.less)
+    omega (
+      arith,
+      reads-length stopped.n before stopped.middle stopped.earlier,
+      ap (λ (t : List Event). length t) stopped.last,
+      length-append stopped.middle (BlockRead (Log stopped.n) stopped.block ∷ []),
+      stopped.less,
+    )
 
 -- a check that ran so
 pub check-runs : (value : LogEntry → ℕ) (blocks : ℕ) (result : Result (Unit {0}) LogCause) (before noted middle after : List Event) (old new : LogLines)

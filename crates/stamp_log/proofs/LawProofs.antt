@@ -73,7 +73,7 @@ lending-law log older n payload left stands line long =
     let less : n < length log.lines.payloads = within log.lines.payloads n (omega (arith, whole)) in
     let same : (m : ℕ) → is_some (line_of lines m) ≡ is_some (line_of log.lines m) =
     λ m. some-held (slice_index_or log.lines.held m false) (slice_index_or lines.payloads m [])
-        ∙ sym (some-held (slice_index_or log.lines.held m false) (slice_index_or log.lines.payloads m [])) in
+    ∙ sym (some-held (slice_index_or log.lines.held m false) (slice_index_or log.lines.payloads m [])) in
     record {
       stands = record {
         read = stands.read;

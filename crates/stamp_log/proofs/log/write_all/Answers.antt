@@ -31,8 +31,12 @@ lines-preserved g c = record {
   last = c.write_oldest.ensures.last;
   room = omega (arith, c.lines.invariant.room, c.write_oldest.ensures.room);
   used = omega (arith, c.lines.invariant.used, c.write_oldest.ensures.room);
-  grown = omega (arith, c.lines.invariant.grown, room-length (length c.lines.lines.held) (g.O.OffChip.trace c.lines.bus) (g.O.OffChip.trace c.write_oldest.new.bus)
-      c.lines.lines c.write_oldest.new.lines c.write_oldest.ensures.makes);
+  grown = omega (
+    arith,
+    c.lines.invariant.grown,
+    room-length (length c.lines.lines.held) (g.O.OffChip.trace c.lines.bus) (g.O.OffChip.trace c.write_oldest.new.bus)
+        c.lines.lines c.write_oldest.new.lines c.write_oldest.ensures.makes,
+  );
   writes = WritesBack.more (g.O.OffChip.trace c.args.bus.now) (g.O.OffChip.trace c.lines.bus) (g.O.OffChip.trace c.write_oldest.new.bus)
       c.args.lines.now c.lines.lines c.write_oldest.new.lines c.lines.invariant.writes
       (subst (λ (n : ℕ). MakesRoom n (g.O.OffChip.trace c.lines.bus) (g.O.OffChip.trace c.write_oldest.new.bus) c.lines.lines c.write_oldest.new.lines)
