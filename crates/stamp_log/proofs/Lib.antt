@@ -10,3 +10,4 @@ pub mod StartLemmas
 pub mod ContentLemmas
 pub mod EventLemmas
 pub mod LawProofs
+mod Worked
