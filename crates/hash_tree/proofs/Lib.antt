@@ -8,6 +8,7 @@ pub mod SchemeLemmas
 pub mod CallLemmas
 pub mod EvictLemmas
 pub mod MoveLemmas
+pub mod FlushLemmas
 pub mod PathLemmas
 pub mod PathLoads
 pub mod KeptLemmas

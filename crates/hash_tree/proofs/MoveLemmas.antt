@@ -85,7 +85,7 @@ no-read : (n : ℕ) (event : Event) → IsRemoval n event → block_read event �
 no-read n event (write block same) = ap (λ (e : Event). block_read e) same
 no-read n event (dropped same) = ap (λ (e : Event). block_read e) same
 
-appended-more : (old middle new events : List Event) (event : Event) → middle ≡ old ++ events → Appends event middle new → new ≡ old ++ (events ++ event ∷ [])
+pub appended-more : (old middle new events : List Event) (event : Event) → middle ≡ old ++ events → Appends event middle new → new ≡ old ++ (events ++ event ∷ [])
 appended-more old middle new events event first last = last ∙ ap (λ (t : List Event). t ++ event ∷ []) first ∙ append_assoc old events (event ∷ [])
 
 -- what is read is pinned

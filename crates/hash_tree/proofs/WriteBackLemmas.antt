@@ -201,7 +201,7 @@ home-written scheme lawful old new n line block below long step home =
     line_clean m other written held clean last (at_other not_self not_parent) =
         home.clean m other written (sym (step.other m not_self not_parent) ∙ held) clean (sym (write-other n block old.trace new.trace step.event m not_self) ∙ last)
 
-contents-written : (scheme : Scheme) → IsLawful scheme → (old new : State) (n : ℕ) (line : Line) (block : Block) → n < scheme.blocks
+pub contents-written : (scheme : Scheme) → IsLawful scheme → (old new : State) (n : ℕ) (line : Line) (block : Block) → n < scheme.blocks
     → WrittenBack scheme old new n line block → SameContents scheme old new
 contents-written scheme lawful old new n line block below step = record { leaf = λ m from inside. by m from inside (where_is scheme n m) }
   where

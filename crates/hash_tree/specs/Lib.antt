@@ -1,5 +1,6 @@
 pub mod AsWritten
 pub mod CachedLines
+pub mod Flushes
 pub mod HashTrees
 pub mod Paths
 pub mod Schemes

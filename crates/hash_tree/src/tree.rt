@@ -16,6 +16,7 @@ ghost use Rattle.hash_tree.specs.HashTrees.{nodes_of, scheme_of, state_of};
 ghost use Rattle.hash_tree.specs.contracts.tree.Tree.{the_row};
 ghost use Rattle.hash_tree.specs.TreeParts.{SameTree, StandsOn, with_lines};
 ghost use Rattle.hash_tree.specs.Paths.{IsAtDepth, path_in, path_of};
+ghost use Rattle.hash_tree.specs.Flushes.{Flushed, LineFlushed};
 ghost use Rattle.hash_tree.specs.TreeSteps.{Evicted, IsStill, KeepsDigest, Moved, Reads, Stops, TellsKept, WritesBack, uncached};
 ghost use Rattle.hash_tree.specs.CachedLines.{held_in};
 
@@ -24,7 +25,7 @@ use aegis_num::{Block, Place, Stamps};
 use arrayvec::ArrayVec;
 use block_hash::block_digest;
 use line_cache::{Lines, Pins};
-use off_chip::{Mark, OffChip};
+use off_chip::{Mark, OffChip, blocks_of_tree};
 use regions::{Layout, height, leaf};
 use std::marker::Model;
 
@@ -151,6 +152,54 @@ impl<L: Lines, V: Veil> Tree<L, V> {
     {
         let block = leaf(&self.layout, position);
         self.lines.line_mut(block)
+    }
+
+    /// Writes all dirty lines back, from the greatest block number down, so that each node is written after its children.
+    /// All lines stay, and are clean then.
+    pub fn flush<O: OffChip>(&mut self, bus: &mut O, stamps: &mut Stamps)
+        requires stands { StandsOn self.old (L.lines self.old.lines) (V.veiled self.old.veil) (O.trace bus.old) }
+        requires fit { StampsFit stamps.old (history (O.trace bus.old)) }
+        requires has_room { 128 ≤ O.room bus.old }
+        requires told { TellsOnly self.old.layout (O.layout bus.old) }
+        ensures tree { SameTree self.old self.new }
+
+        // It stands, its contents are kept, and all lines are kept and clean.
+        ensures does { Flushed (scheme_of self.old.layout (V.veiled self.old.veil)) 0
+            (state_of (L.lines self.old.lines) self.old.root (O.trace bus.old))
+            (state_of (L.lines self.new.lines) self.new.root (O.trace bus.new)) }
+        ensures few { length (O.trace bus.new) ≤ length (O.trace bus.old) + 128 }
+        ensures total { length (O.trace bus.new) + O.room bus.new ≡ length (O.trace bus.old) + O.room bus.old }
+        ensures fit { StampsFit stamps.new (history (O.trace bus.new)) }
+        ensures same { O.same_memory bus.old bus.new }
+    {
+        let _events = bus.events();
+        let mut below = blocks_of_tree(&self.layout);
+        while below > 0 {
+            below -= 1;
+            self.flush_line(bus, stamps, below);
+        }
+    }
+
+    // Writes the line of a block back, where it has one that is dirty.
+    fn flush_line<O: OffChip>(&mut self, bus: &mut O, stamps: &mut Stamps, block: u32)
+        requires stands { StandsOn self.old (L.lines self.old.lines) (V.veiled self.old.veil) (O.trace bus.old) }
+        requires fit { StampsFit stamps.old (history (O.trace bus.old)) }
+        requires has_room { Holds (L.lines self.old.lines) block → 0 < O.room bus.old }
+        requires limit { length (O.trace bus.old) + O.room bus.old < 2 ^ 64 }
+        requires told { TellsOnly self.old.layout (O.layout bus.old) }
+        ensures tree { SameTree self.old self.new }
+        ensures step { LineFlushed (scheme_of self.old.layout (V.veiled self.old.veil))
+            (state_of (L.lines self.old.lines) self.old.root (O.trace bus.old))
+            (state_of (L.lines self.new.lines) self.new.root (O.trace bus.new)) block }
+        ensures room { O.room bus.old ≤ O.room bus.new + 1 }
+        ensures absent { contains_key (L.lines self.old.lines) block ≡ false → O.room bus.new ≡ O.room bus.old }
+        ensures total { length (O.trace bus.new) + O.room bus.new ≡ length (O.trace bus.old) + O.room bus.old }
+        ensures fit { StampsFit stamps.new (history (O.trace bus.new)) }
+        ensures same { O.same_memory bus.old bus.new }
+    {
+        if self.lines.holds(block) && self.lines.dirty(block) {
+            self.write_back(bus, stamps, block);
+        }
     }
 
     // Writes the line of a block back, which is clean then, and keeps the digest of what was written.
