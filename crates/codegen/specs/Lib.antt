@@ -1,0 +1,2 @@
+pub mod ImageCode
+pub mod OpInstructions
