@@ -1,0 +1,3 @@
+pub mod Counted
+pub mod Homes
+pub mod PlanFaults
