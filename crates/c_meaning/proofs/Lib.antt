@@ -1,5 +1,7 @@
+pub mod ActsKept
 pub mod Counts
 pub mod DeclaredOnce
+pub mod DepthKept
 pub mod Layers
 pub mod Listed
 pub mod Uses

@@ -1,6 +1,7 @@
--- Each word on what is listed, on the tokens of tests and on nodes, where it holds and where it does not.
+-- Each word on what is listed, on acts, on depths, on the tokens of tests and on nodes, where it holds and where it does not.
 use Rattle.std.proofs.Common.{◌≡◌, ℕ, true, false, List, [], ◌∷◌, map, codes, Some, None, refl}
 use Rattle.aegis_num.specs.declared.operators.BinaryOp.TheVariants as op
+use Rattle.aegis_num.specs.declared.operators.UnaryOp.TheVariants as unary
 use Rattle.regions.specs.declared.rights.Class.TheVariants.{Private}
 use Rattle.c_token.specs.declared.kinds.Kind.{Kind}
 use Rattle.c_token.specs.declared.kinds.Kind.TheVariants as kind
@@ -18,7 +19,10 @@ use Rattle.c_semantics.specs.ResolvedTree as Tree
 use Rattle.c_meaning.specs.FunctionNumbers.{listed_kept, listed_shape, resolved_kept, resolved_shape, trusted}
 use Rattle.c_scopes.specs.declared.declaration.Entity.TheVariants as entity
 use Rattle.c_meaning.specs.Mentions.{Suspended, bound_to, in_stmt}
+use Rattle.c_meaning.specs.OperatorDepth.{functions_depth, operator_depth, statement_depth}
+use Rattle.c_meaning.specs.SourceActs.{ReleaseAct, CheckAct, functions_acts, items_acts, resolved_acts, stmt_acts}
 use Rattle.c_meaning.specs.SourceNodes.{expr_count, items_count, stmt_count}
+use Rattle.c_meaning.proofs.ActsKept.{acts}
 use Rattle.c_meaning.proofs.Counts.{counts}
 use Rattle.c_meaning.specs.TestTokens.{ExprStands, FunctionsStand, StmtStands}
 
@@ -53,6 +57,86 @@ suspensions = refl
 
 bound_untrusted : bound_to (4 ∷ []) 9 (entity.Function Void true 0) ≡ Suspended ∷ []
 bound_untrusted = refl
+
+-- ---- releases and checks
+
+abbrev give : Tree.Stmt
+give = Tree.Release (Tree.Number 1)
+
+resolved_in_order : resolved_acts (Tree.Then give (Tree.Then Tree.Check (Tree.Block give))) ≡ ReleaseAct ∷ CheckAct ∷ ReleaseAct ∷ []
+resolved_in_order = refl
+
+resolved_around : map resolved_acts (Tree.If (Tree.Number 1) give Tree.Check ∷ Tree.While (Tree.Number 1) Tree.Check ∷ Tree.For give None Tree.Check give ∷ [])
+    ≡ (ReleaseAct ∷ CheckAct ∷ []) ∷ (CheckAct ∷ []) ∷ (ReleaseAct ∷ CheckAct ∷ ReleaseAct ∷ []) ∷ []
+resolved_around = refl
+
+resolved_without : map resolved_acts (Tree.Empty ∷ Tree.Suspend ∷ Tree.Break ∷ Tree.Assign x (Tree.Number 1) ∷ Tree.Return None ∷ Tree.Call 0 Tree.NoArguments ∷ []) ≡ [] ∷ [] ∷ [] ∷ [] ∷ [] ∷ [] ∷ []
+resolved_without = refl
+
+-- a check is no release, and their order counts
+other_order : resolved_acts (Tree.Then give Tree.Check) ≡ CheckAct ∷ ReleaseAct ∷ [] → ⊥
+other_order e = let same : ReleaseAct ∷ CheckAct ∷ [] ≡ CheckAct ∷ ReleaseAct ∷ [] = e in cc
+
+second_body : functions_acts (record { private = false; parameters = []; body = give } ∷ record { private = false; parameters = []; body = Tree.Check } ∷ []) ≡ ReleaseAct ∷ CheckAct ∷ []
+second_body = refl
+
+abbrev gives : Stmt
+gives = stmt.Release (expr.Number 1 false 2) 0
+
+abbrev checks : Stmt
+checks = stmt.Check 0
+
+source_in_order : stmt_acts (stmt.Block (gives ∷ checks ∷ gives ∷ []) 0) ≡ ReleaseAct ∷ CheckAct ∷ ReleaseAct ∷ []
+source_in_order = simp acts refl
+
+source_around : map stmt_acts (stmt.If (expr.Input 0) gives (Some checks) 0 ∷ stmt.If (expr.Input 0) checks None 0 ∷ stmt.While (expr.Input 0) checks 0
+    ∷ stmt.For (Some gives) None (Some checks) gives 0 ∷ stmt.For None None None checks 0 ∷ [])
+    ≡ (ReleaseAct ∷ CheckAct ∷ []) ∷ (CheckAct ∷ []) ∷ (CheckAct ∷ []) ∷ (ReleaseAct ∷ CheckAct ∷ ReleaseAct ∷ []) ∷ (CheckAct ∷ []) ∷ []
+source_around = simp acts refl
+
+source_without : map stmt_acts (stmt.Empty 0 ∷ stmt.Local false (codes "i") None 0 ∷ stmt.Assign (codes "i") None (expr.Input 0) 0 ∷ stmt.Call (codes "f") [] 0 ∷ stmt.Return None 0
+    ∷ stmt.Break 0 ∷ stmt.Continue 0 ∷ []) ≡ [] ∷ [] ∷ [] ∷ [] ∷ [] ∷ [] ∷ [] ∷ []
+source_without = simp acts refl
+
+item_acts : items_acts (item.Untrusted (codes "g") 5 ∷ item.Function false Int (codes "f") [] (gives ∷ []) 7 ∷ item.Object Shared false (codes "a") None 1
+    ∷ item.Function true Void (codes "h") [] (checks ∷ []) 20 ∷ []) ≡ ReleaseAct ∷ CheckAct ∷ []
+item_acts = simp acts refl
+
+-- ---- operators inside one another
+
+-- 1 + 1, and so many sums to the left of a further 1
+abbrev plus : Tree.Expr → Tree.Expr
+plus left = Tree.Binary 9 op.Add left (Tree.Number 1)
+
+abbrev sum : Tree.Expr
+sum = plus (Tree.Number 1)
+
+-- on either side the deeper operand counts, and no operator is counted twice
+depths : map operator_depth (Tree.Number 1 ∷ Tree.Input ∷ sum ∷ plus sum ∷ Tree.Binary 9 op.Add sum sum ∷ Tree.Binary 9 op.Add sum (plus sum) ∷ Tree.Binary 9 op.Add (plus sum) sum ∷ [])
+    ≡ 0 ∷ 0 ∷ 1 ∷ 2 ∷ 2 ∷ 3 ∷ 3 ∷ []
+depths = refl
+
+depths_inside : map operator_depth (Tree.Both sum (Tree.Number 1) ∷ Tree.Either (Tree.Number 1) sum ∷ Tree.Indexed 9 x 3 sum ∷ Tree.Unary unary.Neg sum
+    ∷ Tree.Called 0 (Tree.Argument sum (Tree.Argument (plus sum) Tree.NoArguments)) ∷ []) ≡ 2 ∷ 2 ∷ 1 ∷ 1 ∷ 2 ∷ []
+depths_inside = refl
+
+depths_of_statements : map statement_depth (Tree.Empty ∷ Tree.Local x (Some sum) ∷ Tree.Local x None ∷ Tree.Assign x sum ∷ Tree.Store 9 x 3 sum (plus sum) ∷ Tree.Store 9 x 3 (plus sum) sum
+    ∷ Tree.Call 0 (Tree.Argument sum Tree.NoArguments) ∷ Tree.Release sum ∷ Tree.Return (Some sum) ∷ []) ≡ 0 ∷ 1 ∷ 0 ∷ 1 ∷ 2 ∷ 2 ∷ 1 ∷ 1 ∷ 1 ∷ []
+depths_of_statements = refl
+
+abbrev deep : Tree.Stmt
+deep = Tree.Release (plus sum)
+
+abbrev shallow : Tree.Stmt
+shallow = Tree.Release sum
+
+depths_of_others : map statement_depth (Tree.Then shallow deep ∷ Tree.Then deep shallow ∷ Tree.Block deep ∷ Tree.If (plus sum) shallow shallow ∷ Tree.If sum deep shallow ∷ Tree.If sum shallow deep
+    ∷ Tree.While (plus sum) shallow ∷ Tree.While sum deep ∷ Tree.For deep None shallow shallow ∷ Tree.For shallow (Some (plus sum)) shallow shallow ∷ Tree.For shallow None deep shallow
+    ∷ Tree.For shallow None shallow deep ∷ []) ≡ 2 ∷ 2 ∷ 2 ∷ 2 ∷ 2 ∷ 2 ∷ 2 ∷ 2 ∷ 2 ∷ 2 ∷ 2 ∷ 2 ∷ []
+depths_of_others = refl
+
+depth_of_second : functions_depth (record { private = false; parameters = []; body = shallow } ∷ record { private = false; parameters = []; body = deep } ∷ []) ≡ 2
+depth_of_second = refl
 
 -- ---- tokens of tests
 

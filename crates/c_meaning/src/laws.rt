@@ -1,6 +1,8 @@
 //! Laws of checked programs with their names resolved.
 ghost use Rattle.c_meaning.specs.FunctionNumbers.{FunctionsListed, MainIsFound, NumbersCount, NumbersLead, ObjectsListed};
 ghost use Rattle.c_meaning.specs.Mentions.{NamesAgree};
+ghost use Rattle.c_meaning.specs.OperatorDepth.{OperatorsNest};
+ghost use Rattle.c_meaning.specs.SourceActs.{ActsAgree};
 ghost use Rattle.c_meaning.specs.SourceNodes.{NodesAgree};
 ghost use Rattle.c_meaning.specs.TestTokens.{TestsStand};
 ghost use Rattle.c_resolver.specs.Resolving.{plain_program};
@@ -10,9 +12,10 @@ use c_types::Checked;
 
 /// The names of a program are resolved as the rules of scope bind them (ISO/IEC 9899, section 6.2.1): the resolved program
 /// mentions, in the order of the source, the declaration, class and length that each use is bound to at its site, calls of
-/// untrusted code, and the locals and parameters that are declared.
+/// untrusted code, and the locals and parameters that are declared. It has the releases and the checks of the source, in their order.
 pub fn names_are_those_of_the_scopes(p: &Checked)
     ensures names { NamesAgree p.now }
+    ensures acts { ActsAgree p.now }
 {
     p.program();
 }
@@ -41,11 +44,12 @@ pub fn resolved_as_listed(p: &Checked)
 /// object starts with no more words than it has. A run starts with a function that takes nothing and is not private.
 ///
 /// Tests of indices stand at the tokens of their signs `[`, and operators at those of theirs. The resolved program has as many nodes as
-/// the source.
+/// the source. At most 4,096 operators of two operands stand inside one another.
 pub fn resolved_is_well_shaped(p: &Checked)
     ensures shape { IsShaped (plain_program p.now) }
     ensures tests { TestsStand p.now }
     ensures nodes { NodesAgree p.now }
+    ensures operators { OperatorsNest p.now }
 {
     p.program();
 }
