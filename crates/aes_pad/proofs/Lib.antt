@@ -1,5 +1,6 @@
 mod CipherExamples
 mod FieldExamples
+pub mod LengthLemmas
 pub mod PadLemmas
 pub mod RoundLemmas
 pub mod TableLemmas

@@ -12,3 +12,6 @@ pub use causes::{Changed, LogCause};
 pub use laws::{foreign_events_keep, lending_changes_contents, offline_checks_suffice};
 pub use log::StampLog;
 pub use sums::MultisetSum;
+
+#[cfg(test)]
+mod tests;

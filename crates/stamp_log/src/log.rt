@@ -124,7 +124,12 @@ impl StampLog {
         ensures contents { is_some (line_of self.old.lines block) ≡ false
             → OnOk result (ReadKeepsContents block self.old.lines self.new.lines
             (O.trace bus.old) (O.trace bus.new)) }
+        ensures held { OnOk result (is_some (line_of self.new.lines block) ≡ true) }
         ensures stands { OnOk result (StandsOn self.new (history (O.trace bus.new))) }
+
+        // Where it is an error, nothing is added: the sum of what was read is as before, and the block has no line.
+        ensures nothing_added { OnErr result (self.new.read ≡ self.old.read) }
+        ensures no_line { OnErr result (is_some (line_of self.new.lines block) ≡ false) }
         ensures fits { StampsFit stamps.new (history (O.trace bus.new)) }
         ensures room { O.room bus.old ≤ O.room bus.new + 2 }
         ensures same { O.same_memory bus.old bus.new }

@@ -1,5 +1,5 @@
-use Rattle.std.proofs.Common.{◌+◌, ◌%◌, ◌<◌, ◌≤◌, ℕ, List, ◌∙◌, ap, sym, subst, arith, refl}
-use Rattle.std.specs.Prelude.{◌^◌, is_some}
+use Rattle.std.proofs.Common.{◌+◌, ◌%◌, ◌<◌, ◌≤◌, ℕ, Bool, false, List, ◌∙◌, ap, sym, subst, arith, refl}
+use Rattle.std.specs.Prelude.{◌^◌, is_some, slice_index_or}
 use Rattle.off_chip.specs.Histories.{history}
 use Rattle.off_chip.specs.Epochs.{LogEntry}
 use Rattle.off_chip.specs.Collisions.{sum_of}
@@ -8,7 +8,7 @@ use Rattle.stamp_log.specs.LogCalls.{MakesRoom}
 use Rattle.stamp_log.specs.LogContents.{ReadKeepsContents}
 use Rattle.stamp_log.specs.StandsOn.{StandsOn}
 use Rattle.stamp_log.proofs.SumLemmas.{reads-room}
-use Rattle.stamp_log.proofs.LogLemmas.{line-none, inserted-here, inserted-apart, same-lines, room-keeps, RoomKeeps}
+use Rattle.stamp_log.proofs.LogLemmas.{line-none, line-some, inserted-here, inserted-apart, same-lines, room-keeps, RoomKeeps}
 use Rattle.stamp_log.proofs.LoadLemmas.{RoomMade, room-made, load-stands, read-fits, above-writes, not-above}
 use Rattle.stamp_log.proofs.ContentLemmas.{read-contents, same-contents}
 use Rattle.stamp_log.proofs.log.StampLog.load.Goals as goal
@@ -119,3 +119,30 @@ returns-in-Err-clause-fetches g c = λ none.
 pub returns-in-Err-clause-fits : goal.returns-in-Err-clause-fits
 returns-in-Err-clause-fits g c = read-fits c.make_room.new.stamps c.args.block c.read_entry.new.into (g.O.OffChip.trace c.make_room.new.bus) (g.O.OffChip.trace c.read_entry.new.bus)
     c.read_entry.ensures.event.trace c.make_room.ensures.fits
+
+pub returns-then-has-clause-held : goal.returns-then-has-clause-held
+returns-then-has-clause-held g c = ap is_some (line-some c.touch.new.self c.args.block
+    (ap (λ (xs : List Bool). slice_index_or xs c.args.block false) c.touch.ensures.held ∙ sym c.has.ensures ∙ c.if-has.true))
+
+pub returns-in-Ok-clause-held : goal.returns-in-Ok-clause-held
+returns-in-Ok-clause-held g c =
+    let below : c.args.block < c.self.inside.blocks = subst (λ (l : LogState). c.args.block < l.blocks) (sym c.self.view_is) c.requires.below in
+    let makes : MakesRoom c.self.inside.blocks (g.O.OffChip.trace c.args.bus.now) (g.O.OffChip.trace c.make_room.new.bus) c.self.inside.lines c.make_room.new.lines =
+    subst (λ (n : ℕ). MakesRoom n (g.O.OffChip.trace c.args.bus.now) (g.O.OffChip.trace c.make_room.new.bus) c.self.inside.lines c.make_room.new.lines) c.self.invariant.0 c.make_room.ensures.makes in
+    let made : RoomMade c.args.block c.self.inside.lines c.make_room.new.lines =
+    room-made c.self.inside.blocks c.args.block _ _ c.self.inside.lines c.make_room.new.lines makes c.self.invariant.0
+    (ap is_some (line-none c.self.inside.lines c.args.block (sym c.has.ensures ∙ c.if-has.false))) in
+    ap is_some (inserted-here c.make_room.new.lines c.insert.new.self c.args.block c.read_entry.new.into.payload (omega (arith, below, made.held, c.self.invariant.0))
+    (omega (arith, below, made.payloads, c.self.invariant.1)) c.insert.ensures.held c.insert.ensures.payloads)
+
+pub returns-in-Err-clause-nothing_added : goal.returns-in-Err-clause-nothing_added
+returns-in-Err-clause-nothing_added g c = ap (λ (l : LogState). l.read) c.self.view_is
+
+pub returns-in-Err-clause-no_line : goal.returns-in-Err-clause-no_line
+returns-in-Err-clause-no_line g c =
+    let makes : MakesRoom c.self.inside.blocks (g.O.OffChip.trace c.args.bus.now) (g.O.OffChip.trace c.make_room.new.bus) c.self.inside.lines c.make_room.new.lines =
+    subst (λ (n : ℕ). MakesRoom n (g.O.OffChip.trace c.args.bus.now) (g.O.OffChip.trace c.make_room.new.bus) c.self.inside.lines c.make_room.new.lines) c.self.invariant.0 c.make_room.ensures.makes in
+    let made : RoomMade c.args.block c.self.inside.lines c.make_room.new.lines =
+    room-made c.self.inside.blocks c.args.block _ _ c.self.inside.lines c.make_room.new.lines makes c.self.invariant.0
+    (ap is_some (line-none c.self.inside.lines c.args.block (sym c.has.ensures ∙ c.if-has.false))) in
+    made.none
