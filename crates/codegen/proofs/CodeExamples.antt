@@ -1,27 +1,25 @@
 -- Code of small flat programs, and where the ideal machine comes to on it, each of which computes.
-use Rattle.std.proofs.Common.{◌≡◌, ℕ, ◌+◌, ◌*◌, nat_eq, if◌then◌else◌, List, [], ◌∷◌, ◌++◌, length, map, Option, Some, None, lit≤, refl}
-use Rattle.std.specs.Prelude.{Bool, true, false, pos, negsuc}
+use Rattle.std.proofs.Common.{◌≡◌, ℕ, ◌+◌, ◌*◌, nat_eq, if◌then◌else◌, List, [], ◌∷◌, length, map, Option, Some, None, lit≤, refl}
+use Rattle.std.specs.Prelude.{true, false, pos, negsuc}
 use Rattle.execution.specs.Run.{Next, Goes, Stops}
-use Rattle.execution.specs.Traffic.{Entry, Traffic}
+use Rattle.execution.specs.Traffic.{Traffic}
 use Rattle.aegis_num.specs.declared.UnaryOp.TheVariants.{Neg, Inv, Not}
 use Rattle.aegis_num.specs.declared.BinaryOp.TheVariants as on
 use Rattle.orbis_word.specs.Reading.{instruction_in, signed}
 use Rattle.orbis_word.specs.Table.{encoding}
 use Rattle.orbis_word.specs.declared.Instr.{Instr}
-use Rattle.orbis_word.specs.declared.Instr.TheVariants.{J, Jal, Bf, Movhi, Jr, Cust1, Lwz, Addi, Ori, Slli, Sw, Add, Sub, Sfeq, Sfne, Sfltu, Nop}
-use Rattle.regions.specs.declared.Class.{Class}
-use Rattle.regions.specs.declared.Class.TheVariants.{Verified, Private, Constant, Open}
+use Rattle.orbis_word.specs.declared.Instr.TheVariants.{J, Jal, Bf, Movhi, Jr, Cust1, Lwz, Addi, Ori, Slli, Sw, Add, Sub, Sfeq, Sfne, Sfltu}
 use Rattle.regions.specs.declared.Layout.{Layout}
-use Rattle.regions.specs.LooseClasses.{nothing_loose, shared_loose}
+use Rattle.regions.specs.LooseClasses.{nothing_loose}
 use Rattle.regions.specs.Addresses.{class_at}
 use Rattle.orbis_core.specs.ByteOrder.{bytes_of}
-use Rattle.orbis_core.specs.Ideal.{Ideal, IdealEnd, Ended, Index, Divide, Starved, ideal_run}
+use Rattle.orbis_core.specs.Ideal.{Ideal, IdealEnd, Ended, Index, ideal_run}
 use Rattle.ir_code.specs.declared.Ir.{Ir}
 use Rattle.ir_code.specs.declared.Op.{Op}
 use Rattle.ir_code.specs.declared.Op.TheVariants as op
-use Rattle.ir_code.proofs.Worked.{straight, looping, calling, cell, having}
+use Rattle.ir_code.proofs.Worked.{straight, looping, calling}
 use Rattle.codegen.specs.OpInstructions.{Sites, upper, lower, distance, instructions_of}
-use Rattle.codegen.specs.ImageCode.{size_of, offset_of, code_size, sites_of, code_from, code_blocks, code_of, entry_of, constant_words, constant_bytes}
+use Rattle.codegen.specs.ImageCode.{code_size, code_blocks, code_of, entry_of}
 
 -- ---- parts
 

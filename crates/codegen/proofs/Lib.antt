@@ -1,1 +1,9 @@
 mod CodeExamples
+pub mod Comes
+pub mod Jumping
+pub mod Ops
+pub mod Parts
+pub mod Placing
+pub mod Registers
+pub mod Remainders
+pub mod Rules

@@ -1,5 +1,5 @@
 -- Promise: the code and the constants of an image for flat code.
-use Rattle.std.specs.Prelude.{ℕ, zero, suc, ◌+◌, ◌-◌, ◌*◌, ◌/◌, true, false, cond, List, [], ◌∷◌, ◌++◌, length, replicate, Option, Some, None}
+use Rattle.std.specs.Prelude.{ℕ, zero, suc, ◌+◌, ◌-◌, ◌*◌, ◌/◌, cond, List, [], ◌∷◌, ◌++◌, length, replicate, Option, Some, None}
 use Rattle.orbis_word.specs.declared.Instr.{Instr}
 use Rattle.orbis_word.specs.declared.Instr.TheVariants.{Nop}
 use Rattle.orbis_core.specs.ByteOrder.{bytes_of}

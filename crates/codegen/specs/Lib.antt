@@ -1,2 +1,3 @@
+pub mod EmittedImage
 pub mod ImageCode
 pub mod OpInstructions
