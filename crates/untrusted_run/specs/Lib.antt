@@ -1,0 +1,4 @@
+pub mod OpenAccesses
+pub mod PhaseLaws
+pub mod PhaseParts
+pub mod Phases
