@@ -46,7 +46,7 @@ pub NodesLaidOut-more : (scheme : Scheme) (event : Event) (old new : List Event)
 NodesLaidOut-more scheme event old new same all last =
     record { each = subst (λ (h : History). Each (NodeLaidOut scheme) h) (sym (grown event old new same)) (all.each, last) }
 
-slice_get-front : {X : Type 0} (xs ys : List X) (k : ℕ) (y : X) → slice_get xs k ≡ Some y → slice_get (xs ++ ys) k ≡ Some y
+pub slice_get-front : {X : Type 0} (xs ys : List X) (k : ℕ) (y : X) → slice_get xs k ≡ Some y → slice_get (xs ++ ys) k ≡ Some y
 slice_get-front [] ys k y found = cc
 slice_get-front (z ∷ xs) ys zero y found = found
 slice_get-front (z ∷ xs) ys (suc k) y found = slice_get-front xs ys k y found
@@ -203,7 +203,7 @@ drop-expected digests n old new same m = ap (λ (h : History). expected_digest d
 
 -- ---- an event at no tree place
 
-written-elsewhere : (event : Event) → IsElsewhere event → (m : ℕ) → written_at (Tree m) event ≡ None
+pub written-elsewhere : (event : Event) → IsElsewhere event → (m : ℕ) → written_at (Tree m) event ≡ None
 written-elsewhere (BlockWrite at block) elsewhere m =
     ap (λ (b : Bool). cond b (Some block) None) (same_place-apart (Tree m) at (λ (same : Tree m ≡ at). elsewhere m (ap (λ (p : Place). Some p) (sym same))))
 written-elsewhere event elsewhere m = refl

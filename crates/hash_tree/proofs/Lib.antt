@@ -8,6 +8,12 @@ pub mod SchemeLemmas
 pub mod CallLemmas
 pub mod EvictLemmas
 pub mod MoveLemmas
+pub mod EnterLemmas
+pub mod EnterParts
+pub mod EntryLemmas
+pub mod EntryNumbers
+pub mod NodeLemmas
+pub mod UnderLemmas
 pub mod FlushLemmas
 pub mod PathLemmas
 pub mod PathLoads

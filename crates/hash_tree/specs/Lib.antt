@@ -1,5 +1,6 @@
 pub mod AsWritten
 pub mod CachedLines
+pub mod Entering
 pub mod Flushes
 pub mod HashTrees
 pub mod Paths

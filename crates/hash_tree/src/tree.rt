@@ -1,11 +1,12 @@
 //! The cached hash tree, after Suh et al., "AEGIS: Architecture for Tamper-Evident and Tamper-Resistant Processing",
 //! ICS 2003. Its numbers are this project's own.
-ghost use Rattle.std.specs.Prelude.{◌≡◌, ℕ, ◌+◌, ◌*◌, ◌^◌, ◌<◌, ◌≤◌, ◌∷◌, ◌++◌, false, Contains, IfErr, IfOk, IsOk, List, [], Some, length, IsTrue};
+ghost use Rattle.std.specs.Prelude.{◌≡◌, ℕ, ◌+◌, ◌*◌, ◌^◌, ◌<◌, ◌≤◌, ◌∷◌, ◌++◌, false, Contains, replicate, IfErr, IfOk, IsOk, List, [], Some, length, IsTrue};
 ghost use Rattle.std.specs.Borrow.{Lends, sem, u8 as byte, Array};
+ghost use Rattle.std.specs.List.{All};
 ghost use Rattle.std.specs.FinMap.{contains_key, empty, len};
 ghost use Rattle.regions.specs.Tree.{leaf_of, parent_in, positions_of, slot_in, tree_blocks};
 ghost use Rattle.line_cache.specs.LineMaps.{HasParent, HoldParents, Holds, IsChildless, payload_at};
-ghost use Rattle.off_chip.specs.OffChipBytes.{bytes_put};
+ghost use Rattle.off_chip.specs.OffChipBytes.{bytes_put, static_blocks};
 ghost use Rattle.block_hash.specs.BlockStrings.{block_digest};
 ghost use Rattle.off_chip.specs.BusCalls.{TellsOnly};
 ghost use Rattle.off_chip.specs.HonestMemory.{IsWhole};
@@ -16,14 +17,15 @@ ghost use Rattle.hash_tree.specs.HashTrees.{nodes_of, scheme_of, state_of};
 ghost use Rattle.hash_tree.specs.contracts.tree.Tree.{the_row};
 ghost use Rattle.hash_tree.specs.TreeParts.{SameTree, StandsOn, with_lines};
 ghost use Rattle.hash_tree.specs.Paths.{IsAtDepth, path_in, path_of};
+ghost use Rattle.hash_tree.specs.Entering.{Entered, SubtreeEntered, WritesFirst, first_leaf, is_static, leaf_moves, moves_below, statics_before};
 ghost use Rattle.hash_tree.specs.Flushes.{Flushed, LineFlushed};
-ghost use Rattle.hash_tree.specs.TreeSteps.{Evicted, IsStill, KeepsDigest, Moved, Reads, Stops, TellsKept, WritesBack, uncached};
+ghost use Rattle.hash_tree.specs.TreeSteps.{Evicted, IsElsewhere, IsStill, KeepsDigest, Moved, Reads, Stops, TellsKept, WritesBack, uncached};
 ghost use Rattle.hash_tree.specs.CachedLines.{held_in};
 
 use crate::veil::Veil;
 use aegis_num::{Block, Place, Stamps};
 use arrayvec::ArrayVec;
-use block_hash::block_digest;
+use block_hash::{ProgramHasher, block_digest};
 use line_cache::{Lines, Pins};
 use off_chip::{Mark, OffChip, blocks_of_tree};
 use regions::{Layout, height, leaf};
@@ -78,6 +80,136 @@ impl<L: Lines, V: Veil> Tree<L, V> {
             layout,
             root: [0; 20],
         }
+    }
+
+    /// Enters the program: reads each static block once, in the order of their numbers, and writes each block of the tree, each
+    /// node directly after its third child. Data positions that are not static hold zeros from then on. The answer is the
+    /// digest of the program that was read. It makes an event for each static block and one for each block of the tree.
+    pub fn enter<O: OffChip>(&mut self, bus: &mut O, stamps: &mut Stamps) -> [u8; 20]
+        requires fresh { L.lines self.old.lines ≡ empty }
+        requires untouched { All IsElsewhere (O.trace bus.old) }
+        requires fit { StampsFit stamps.old (history (O.trace bus.old)) }
+        requires has_room { static_blocks self.old.layout + tree_blocks self.old.layout ≤ O.room bus.old }
+        requires told { TellsOnly self.old.layout (O.layout bus.old) }
+        ensures tree { SameTree self.old self.new }
+        ensures stands { StandsOn self.new (L.lines self.new.lines) (V.veiled self.new.veil) (O.trace bus.new) }
+        ensures lines { L.lines self.new.lines ≡ empty }
+        ensures does { Entered self.old.layout (scheme_of self.old.layout (V.veiled self.old.veil))
+            (state_of (L.lines self.old.lines) self.old.root (O.trace bus.old))
+            (state_of (L.lines self.new.lines) self.new.root (O.trace bus.new)) result }
+        ensures count { length (O.trace bus.new)
+            ≡ length (O.trace bus.old) + (static_blocks self.old.layout + tree_blocks self.old.layout) }
+        ensures total { length (O.trace bus.new) + O.room bus.new ≡ length (O.trace bus.old) + O.room bus.old }
+        ensures fit { StampsFit stamps.new (history (O.trace bus.new)) }
+        ensures same { O.same_memory bus.old bus.new }
+    {
+        let _events = bus.events();
+        let levels = height(&self.layout);
+        let mut program = ProgramHasher::new(self.layout.constants + self.layout.code);
+        self.root = self.enter_below(bus, stamps, &mut program, 0, levels);
+        program.finish()
+    }
+
+    // Enters a block with so many levels below it, and gives its digest.
+    fn enter_below<O: OffChip>(
+        &self,
+        bus: &mut O,
+        stamps: &mut Stamps,
+        program: &mut ProgramHasher,
+        block: u32,
+        levels: u32,
+    ) -> [u8; 20]
+        requires nodes { V.nodes self.now.veil ≡ nodes_of self.now.layout }
+        requires leaves { nodes_of self.now.layout ≤ first_leaf levels block }
+        requires inside { first_leaf levels (block + 1) ≤ tree_blocks self.now.layout }
+        requires added { program.old.added ≡ statics_before self.now.layout (first_leaf levels block) }
+        requires blocks { program.old.blocks ≡ static_blocks self.now.layout }
+        requires fit { StampsFit stamps.old (history (O.trace bus.old)) }
+        requires has_room { length (moves_below self.now.layout levels block) ≤ O.room bus.old }
+        requires limit { length (O.trace bus.old) + O.room bus.old < 2 ^ 64 }
+        requires told { TellsOnly self.now.layout (O.layout bus.old) }
+        ensures does { SubtreeEntered self.now.layout (scheme_of self.now.layout (V.veiled self.now.veil))
+            levels block program.old program.new (O.trace bus.old) (O.trace bus.new) result }
+        ensures added { program.new.added ≡ statics_before self.now.layout (first_leaf levels (block + 1)) }
+        ensures blocks { program.new.blocks ≡ static_blocks self.now.layout }
+        ensures room { O.room bus.new + length (moves_below self.now.layout levels block) ≡ O.room bus.old }
+        ensures total { length (O.trace bus.new) + O.room bus.new ≡ length (O.trace bus.old) + O.room bus.old }
+        ensures fit { StampsFit stamps.new (history (O.trace bus.new)) }
+        ensures same { O.same_memory bus.old bus.new }
+    {
+        if levels == 0 {
+            return self.enter_leaf(bus, stamps, program, block);
+        }
+        let first = self.enter_below(bus, stamps, program, FAN * block + 1, levels - 1);
+        let second = self.enter_below(bus, stamps, program, FAN * block + 2, levels - 1);
+        let third = self.enter_below(bus, stamps, program, FAN * block + 3, levels - 1);
+        let payload = node_payload(&first, &second, &third);
+        self.write_first(bus, stamps, block, &payload)
+    }
+
+    // Enters a block of the lowest level, and gives its digest. A static block is read, and each other one holds zeros.
+    fn enter_leaf<O: OffChip>(
+        &self,
+        bus: &mut O,
+        stamps: &mut Stamps,
+        program: &mut ProgramHasher,
+        block: u32,
+    ) -> [u8; 20]
+        requires leaf { nodes_of self.now.layout ≤ block }
+        requires inside { block < tree_blocks self.now.layout }
+        requires added { program.old.added ≡ statics_before self.now.layout block }
+        requires blocks { program.old.blocks ≡ static_blocks self.now.layout }
+        requires fit { StampsFit stamps.old (history (O.trace bus.old)) }
+        requires has_room { length (leaf_moves self.now.layout block) ≤ O.room bus.old }
+        requires limit { length (O.trace bus.old) + O.room bus.old < 2 ^ 64 }
+        requires told { TellsOnly self.now.layout (O.layout bus.old) }
+        ensures does { SubtreeEntered self.now.layout (scheme_of self.now.layout (V.veiled self.now.veil))
+            0 block program.old program.new (O.trace bus.old) (O.trace bus.new) result }
+        ensures added { program.new.added ≡ statics_before self.now.layout (block + 1) }
+        ensures blocks { program.new.blocks ≡ static_blocks self.now.layout }
+        ensures room { O.room bus.new + length (leaf_moves self.now.layout block) ≡ O.room bus.old }
+        ensures total { length (O.trace bus.new) + O.room bus.new ≡ length (O.trace bus.old) + O.room bus.old }
+        ensures fit { StampsFit stamps.new (history (O.trace bus.new)) }
+        ensures same { O.same_memory bus.old bus.new }
+    {
+        if !is_static(&self.layout, block) {
+            return self.write_first(bus, stamps, block, &[0; 64]);
+        }
+        let mut found = Block {
+            payload: [0; 64],
+            stamp: 0,
+        };
+        bus.read_block(Place::Tree(block), &mut found);
+        program.add(&found.payload);
+        self.write_first(bus, stamps, block, &found.payload)
+    }
+
+    // Writes a payload that has no line, and gives the digest of what was written.
+    fn write_first<O: OffChip>(
+        &self,
+        bus: &mut O,
+        stamps: &mut Stamps,
+        block: u32,
+        payload: &[u8; 64],
+    ) -> [u8; 20]
+        requires inside { block < tree_blocks self.now.layout }
+        requires fit { StampsFit stamps.old (history (O.trace bus.old)) }
+        requires has_room { 0 < O.room bus.old }
+        requires limit { length (O.trace bus.old) + O.room bus.old < 2 ^ 64 }
+        requires told { TellsOnly self.now.layout (O.layout bus.old) }
+        ensures does { WritesFirst (scheme_of self.now.layout (V.veiled self.now.veil)) block payload.now result
+            (O.trace bus.old) (O.trace bus.new) }
+        ensures room { O.room bus.new + 1 ≡ O.room bus.old }
+        ensures fit { StampsFit stamps.new (history (O.trace bus.new)) }
+        ensures same { O.same_memory bus.old bus.new }
+    {
+        let mut written = Block {
+            payload: *payload,
+            stamp: stamps.fresh(),
+        };
+        self.veil.veil(block, written.stamp, &mut written.payload);
+        bus.write_block(Place::Tree(block), &written);
+        block_digest(block, &written)
     }
 
     /// Gives the data block at a position a line, and each block of its path, by reads of those that have none, from the root
@@ -441,6 +573,27 @@ fn digest_of(number: u32, payload: &[u8; 64], stamp: u64) -> [u8; 20]
         stamp,
     };
     block_digest(number, &block)
+}
+
+// Whether a tree block of the lowest level is a static block: a constant block or a code block.
+fn is_static(layout: &Layout, block: u32) -> bool
+    requires leaf { nodes_of layout.now ≤ block }
+    ensures value { result ≡ is_static layout.now block }
+{
+    let position = block - leaf(layout, 0);
+    let first = layout.verified + layout.private;
+    first <= position && position < first + layout.constants + layout.code
+}
+
+// The payload of a node whose children have these digests.
+fn node_payload(first: &[u8; 20], second: &[u8; 20], third: &[u8; 20]) -> [u8; 64]
+    ensures value { result ≡ bytes_put 40 third.now (bytes_put 20 second.now (bytes_put 0 first.now (replicate 64 0))) }
+{
+    let mut payload = [0; 64];
+    put_digest(&mut payload, 0, first);
+    put_digest(&mut payload, 1, second);
+    put_digest(&mut payload, 2, third);
+    payload
 }
 
 // The pinned blocks, and each block of the path down to a block that stands so many steps below the root.
