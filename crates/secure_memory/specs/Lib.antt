@@ -1,0 +1,3 @@
+pub mod PrivatePads
+pub mod PadLaws
+pub mod MemoryStands

@@ -1,0 +1,11 @@
+//! One secure memory: a hash tree, a log, pads over private blocks and open words, on one bus.
+#![tactic(auto)]
+
+mod memory;
+mod pads;
+
+pub use memory::{Parts, SecureMemory};
+pub use pads::PrivatePad;
+
+#[cfg(test)]
+mod tests;

@@ -1,0 +1,217 @@
+//! The secure memory.
+ghost use Rattle.std.specs.Prelude.{◌≡◌, ◌+◌, ◌≤◌, [], length, IfErr, IsTrue, OnOk, ◌↔◌};
+ghost use Rattle.std.specs.FinMap.{empty};
+ghost use Rattle.std.specs.Borrow.{Lends, sem};
+ghost use mir.Syntax.{named};
+ghost use Rattle.regions.specs.contracts.modes.ModeUnit.{the_row as mode_row};
+ghost use Rattle.secure_memory.specs.contracts.memory.SecureMemory.{the_row};
+ghost use Rattle.regions.specs.declared.rights.Mode.TheVariants.{Std, Te};
+ghost use Rattle.off_chip.specs.BusCalls.{TellsOnly};
+ghost use Rattle.off_chip.specs.Epochs.{IsQuiet};
+ghost use Rattle.off_chip.specs.Histories.{History, history};
+ghost use Rattle.stamp_log.specs.LogEvents.{RunsCheck};
+ghost use Rattle.stamp_log.specs.LogState.{value_under};
+ghost use Rattle.stamp_log.specs.OfflineCheck.{IsCause, PassedFaithful};
+ghost use Rattle.stamp_log.specs.StandsOn.{IsNew, StandsOn};
+ghost use Rattle.secure_memory.specs.MemoryStands.{IsOfLayout, MemoryStands};
+
+use crate::pads::PrivatePad;
+use aegis_num::Stamps;
+use arrayvec::ArrayVec;
+use hash_tree::Tree;
+use line_cache::{Lines, Pins};
+use off_chip::OffChip;
+use regions::{Layout, ModeUnit};
+use stamp_log::{LogCause, StampLog};
+
+/// What a memory keeps while another one uses the bus.
+#[derive(Drop)]
+pub struct Parts<L: Lines> {
+    /// The hash tree over the data blocks.
+    pub tree: Tree<L, PrivatePad>,
+    /// The log of the log blocks.
+    pub log: StampLog,
+    /// The counter of stamps.
+    pub stamps: Stamps,
+    /// The mode.
+    pub modes: ModeUnit,
+    /// How many blocks there are of each class.
+    pub layout: Layout,
+}
+
+/// A memory of verified, private, constant, code, logged and open bytes on one bus. Data blocks go through a hash tree, log
+/// blocks through a log, and open words go over the bus as they are.
+pub struct SecureMemory<'a, O: OffChip, L: Lines> {
+    /// The bus, which is lent to it.
+    pub lent: &'a mut O,
+    /// The hash tree over the data blocks.
+    pub tree: Tree<L, PrivatePad>,
+    /// The log of the log blocks.
+    pub log: StampLog,
+    /// The counter of stamps.
+    pub stamps: Stamps,
+    /// The mode.
+    pub mode_unit: ModeUnit,
+    /// How many blocks there are of each class.
+    pub layout: Layout,
+    /// The path of the block that the last instruction was fetched from.
+    pub pins: Pins,
+}
+
+impl<'a, O: OffChip, L: Lines> SecureMemory<'a, O, L> {
+    /// A memory over a new tree and a new log, on a bus with no event. It starts in STD and has given no stamp.
+    pub fn new(
+        bus: &'a mut O,
+        tree: Tree<L, PrivatePad>,
+        log: StampLog,
+        layout: Layout,
+    ) -> SecureMemory<'a, O, L>
+        requires unused { O.trace bus.old ≡ [] }
+        requires lines { L.lines tree.lines ≡ empty }
+        requires log { IsNew log }
+        requires parts { IsOfLayout layout tree log }
+        ensures same_reference { result.lent.ghost_name ≡ bus.entry.ghost_name }
+        ensures bus { result.lent.now ≡ bus.old }
+        ensures tree { result.tree ≡ tree }
+        ensures log { result.log ≡ log }
+        ensures stamps { result.stamps ≡ 0 }
+        ensures modes { result.mode_unit ≡ record { mode = Std; kept = Te } }
+        ensures layout { result.layout ≡ layout }
+        ensures pins { result.pins.blocks.items ≡ [] }
+    {
+        SecureMemory {
+            lent: bus,
+            tree,
+            log,
+            stamps: Stamps::new(),
+            mode_unit: ModeUnit::new(),
+            layout,
+            pins: no_pins(),
+        }
+    }
+
+    /// A memory with these parts, on the bus that they stand on. It pins nothing until its next fetch.
+    pub fn with(bus: &'a mut O, parts: Parts<L>) -> SecureMemory<'a, O, L>
+        requires stands { MemoryStands parts.layout parts.tree (L.lines parts.tree.lines)
+            parts.log parts.stamps (O.trace bus.old) }
+        ensures same_reference { result.lent.ghost_name ≡ bus.entry.ghost_name }
+        ensures bus { result.lent.now ≡ bus.old }
+        ensures tree { result.tree ≡ parts.tree }
+        ensures log { result.log ≡ parts.log }
+        ensures stamps { result.stamps ≡ parts.stamps }
+        ensures modes { result.mode_unit ≡ parts.modes }
+        ensures layout { result.layout ≡ parts.layout }
+        ensures pins { result.pins.blocks.items ≡ [] }
+    {
+        let Parts {
+            tree,
+            log,
+            stamps,
+            modes,
+            layout,
+        } = parts;
+        SecureMemory {
+            lent: bus,
+            tree,
+            log,
+            stamps,
+            mode_unit: modes,
+            layout,
+            pins: no_pins(),
+        }
+    }
+
+    /// Gives the bus back, and the parts of the memory. It makes no event.
+    pub fn parts(self) -> Parts<L>
+        ensures tree { result.tree ≡ self.entry.tree }
+        ensures log { result.log ≡ self.entry.log }
+        ensures stamps { result.stamps ≡ self.entry.stamps }
+        ensures modes { result.modes ≡ self.entry.mode_unit }
+        ensures layout { result.layout ≡ self.entry.layout }
+    {
+        let SecureMemory {
+            lent: _,
+            tree,
+            log,
+            stamps,
+            mode_unit,
+            layout,
+            pins: _,
+        } = self;
+        Parts {
+            tree,
+            log,
+            stamps,
+            modes: mode_unit,
+            layout,
+        }
+    }
+
+    /// The mode, to be changed by the instructions that change it.
+    pub fn modes(&mut self) -> &mut ModeUnit
+        ensures* writes_back { sem 𝓛 (Lends
+            (the_row (record { mir = named 1; lft = [] }) O.row L.row L.Lines)
+            mode_row self.entry result (λ w. record self.old { mode_unit = w })) }
+        ensures value { result.now ≡ self.old.mode_unit }
+    {
+        &mut self.mode_unit
+    }
+
+    /// The bus. What is lent may be given events at no place of a block, and no mark of a check.
+    pub fn bus(&mut self) -> &mut O
+        ensures* writes_back { sem 𝓛 (Lends
+            (the_row (record { mir = named 1; lft = [] }) O.row L.row L.Lines) O.row
+            self.entry result (λ w. record self.old { lent = record self.old.lent { now = w } })) }
+        ensures value { result.now ≡ self.old.lent.now }
+    {
+        &mut *self.lent
+    }
+
+    /// Whether no block of the log was read since the latest check that passed.
+    pub fn quiet(&self) -> bool
+        ensures quiet { (older : History) → StandsOn self.now.log older
+            → IsTrue result ↔ IsQuiet older }
+    {
+        self.log.quiet()
+    }
+
+    /// Checks all reads of the log since the latest check that passed. Takes room for `L + 34` events, where `L` is how many
+    /// blocks the log has.
+    pub fn check(&mut self) -> Result<(), LogCause>
+        requires has_room { self.old.log.blocks + 34 ≤ O.room self.old.lent.now }
+        requires told { TellsOnly self.old.layout (O.layout self.old.lent.now) }
+        requires stands { MemoryStands self.old.layout self.old.tree (L.lines self.old.tree.lines)
+            self.old.log self.old.stamps (O.trace self.old.lent.now) }
+        ensures stands { OnOk result (MemoryStands self.new.layout self.new.tree
+            (L.lines self.new.tree.lines) self.new.log self.new.stamps (O.trace self.new.lent.now)) }
+
+        // At Ok each log read since then was faithful, or the trace holds two multisets of one sum.
+        ensures faithful { OnOk result
+            (PassedFaithful (value_under self.old.log.key) (O.trace self.new.lent.now)) }
+        ensures cause { IfErr result
+            (IsCause (value_under self.old.log.key) (O.trace self.new.lent.now)) }
+        ensures events { RunsCheck (value_under self.old.log.key) self.old.log.blocks result
+            (O.trace self.old.lent.now) (O.trace self.new.lent.now)
+            self.old.log.lines self.new.log.lines }
+        ensures most { length (O.trace self.new.lent.now)
+            ≤ length (O.trace self.old.lent.now) + (self.old.log.blocks + 34) }
+        ensures room { O.room self.old.lent.now
+            ≤ O.room self.new.lent.now + (self.old.log.blocks + 34) }
+        ensures tree { self.new.tree ≡ self.old.tree }
+        ensures modes { self.new.mode_unit ≡ self.old.mode_unit }
+        ensures layout { self.new.layout ≡ self.old.layout }
+        ensures same { O.same_memory self.old.lent.now self.new.lent.now }
+        ensures same_reference { self.new.lent.ghost_name ≡ self.old.lent.ghost_name }
+    {
+        self.log.check(&mut *self.lent, &mut self.stamps)
+    }
+}
+
+// No block is pinned.
+fn no_pins() -> Pins
+    ensures { result.blocks.items ≡ [] }
+{
+    Pins {
+        blocks: ArrayVec::new(),
+    }
+}
