@@ -1,5 +1,7 @@
 mod CodeExamples
 pub mod Comes
+pub mod Elements
+pub mod Imaging
 pub mod Jumping
 pub mod Ops
 pub mod Parts
@@ -7,3 +9,5 @@ pub mod Placing
 pub mod Registers
 pub mod Remainders
 pub mod Rules
+pub mod Running
+pub mod Statics
