@@ -1,20 +1,16 @@
 -- The image of lawful flat code does what the code means.
-use Rattle.std.proofs.Common.{◌≡◌, ◌≢◌, ℕ, zero, suc, ◌+◌, ◌-◌, ◌*◌, ◌/◌, ◌%◌, ◌^◌, ◌<◌, ◌≤◌, Bool, true, false, not, ◌==◌, cond, nat_eq, List, [], ◌∷◌, ◌++◌, length, map, take, replicate, Option, Some, None, arith, refl, sym, ◌∙◌, ap, subst, append_assoc}
+use Rattle.std.proofs.Common.{◌≡◌, ℕ, ◌+◌, ◌-◌, ◌*◌, ◌^◌, ◌<◌, ◌≤◌, Bool, true, false, not, ◌==◌, cond, List, ◌++◌, length, map, take, replicate, Option, Some, arith, refl, sym, ◌∙◌, ap, subst, append_assoc}
 use Rattle.std.proofs.lemmas.Bool.{eqb-true, true≢false}
-use Rattle.std.proofs.lemmas.List.{length-append, length-map}
 use Rattle.std.specs.Prelude.{slice_index}
-use Rattle.std.specs.List.{slice_get, AllByRecursion}
-use Rattle.execution.specs.Run.{Next, Goes, Stops, run, state_of}
-use Rattle.execution.specs.Traffic.{Element, Entry, Traffic, Extends, traffic_from}
-use Rattle.execution.specs.Naming.{Addressed, name_by, element_by, entry_named, traffic_named, IsNaming}
+use Rattle.std.specs.List.{slice_get}
+use Rattle.execution.specs.Run.{Next, Stops, state_of}
+use Rattle.execution.specs.Traffic.{Element, Entry}
+use Rattle.execution.specs.Naming.{Addressed, name_by, element_by, entry_named}
 use Rattle.execution.proofs.NamingLemmas.{name-test, name-address, is-naming, named-entries}
 use Rattle.regions.specs.declared.Class.{Class}
 use Rattle.regions.specs.declared.Class.TheVariants.{Open, Verified, Private, Constant, Code, Logged}
-use Rattle.regions.specs.declared.Layout.{Layout}
-use Rattle.regions.specs.Addresses.{class_at, start_of, LiesIn}
+use Rattle.regions.specs.Addresses.{start_of, LiesIn}
 use Rattle.regions.proofs.AddressLaws.{LiesIn-class_at}
-use Rattle.orbis_word.specs.declared.Instr.{Instr}
-use Rattle.orbis_word.specs.Reading.{instruction_in}
 use Rattle.orbis_core.specs.ByteOrder.{bytes_of, words_in}
 use Rattle.orbis_core.specs.Ideal as ideal
 use Rattle.orbis_core.specs.Ideal.{Ideal, IdealEnd, ideal_step, ideal_start, static_memory}
@@ -24,24 +20,23 @@ use Rattle.orbis_core.proofs.WholeLemmas.{states-whole}
 use Rattle.orbis_core.proofs.FlatLaws.{length-bytes_of}
 use Rattle.ir_code.specs.declared.Cell.{Cell}
 use Rattle.ir_code.specs.declared.Ir.{Ir}
-use Rattle.ir_code.specs.declared.Op.{Op}
 use Rattle.ir_code.specs.FlatStates as flat
 use Rattle.ir_code.specs.FlatStates.{Word, FlatState, FlatEnd, words_of, class_of, class_in, first_flat, first_in, element_at}
-use Rattle.ir_code.specs.FlatMeaning.{flat_step, flat_run}
-use Rattle.ir_code.specs.Lawful.{HasForm, IsLawful, all_hold, has_first, is_constant, is_code, is_data}
-use Rattle.region_plan.specs.Homes.{HasSizes, home_address, first_address, class_words}
+use Rattle.ir_code.specs.FlatMeaning.{flat_run}
+use Rattle.ir_code.specs.Lawful.{IsLawful, has_first, is_constant, is_code, is_data}
+use Rattle.region_plan.specs.Homes.{home_address, first_address, class_words}
 use Rattle.region_plan.proofs.HomeLaws.{IsPlaced, placed, first-aligned, hold-at, IsCell, cell-of}
 use Rattle.image_file.specs.declared.Image.{Image}
 use Rattle.image_file.specs.ImageTable.{static_bytes, HoldsWords}
 use Rattle.codegen.specs.OpInstructions.{instructions_of}
-use Rattle.codegen.specs.ImageCode.{code_blocks, code_from, code_of, code_size, constant_words, constant_bytes, offset_of, sites_of}
+use Rattle.codegen.specs.ImageCode.{code_blocks, code_of, code_size, constant_words, offset_of}
 use Rattle.codegen.specs.EmittedImage.{IsImageOf, elements_from, address_name, image_run, machine_end, EndsLikeCode, IsAhead, MeansCode, HasFirstWords, ImagesMeanCode}
 use Rattle.codegen.proofs.Registers.{zeros}
-use Rattle.codegen.proofs.Comes.{World, Fits, HasCode, Tied, Related, address_of, sites, word_held, steps_of, standing}
+use Rattle.codegen.proofs.Comes.{World, Fits, HasCode, Related, address_of, sites, word_held}
 use Rattle.codegen.proofs.Elements.{elements-apart, element-listed}
 use Rattle.codegen.proofs.Ops.{forgot}
-use Rattle.codegen.proofs.Placing.{op-stands, offset-le, length-code}
-use Rattle.codegen.proofs.Running.{Laid, NeverStuck, Finished, forwards, Back, backwards}
+use Rattle.codegen.proofs.Placing.{op-stands, offset-le}
+use Rattle.codegen.proofs.Running.{Laid, NeverStuck, forwards, Back, backwards}
 use Rattle.codegen.proofs.Statics.{index-after, all-join, bytes-small, empty-index, image-words, constant-at, static-inside, static-outside, words-stand}
 
 module _ (loose : Class → Bool) (ir : Ir) (image : Image) (lawful : IsLawful loose ir) (first : HasFirstWords ir.cells) (is : IsImageOf ir image) (holds : HoldsWords image) where
@@ -141,7 +136,7 @@ module _ (loose : Class → Bool) (ir : Ir) (image : Image) (lawful : IsLawful l
           let k : ℕ = class_words Constant (take c ir.cells) + i in
           let count : length cell.first ≡ cell.words = eqb-true (length cell.first) cell.words firsts in
           let home : home_address image.layout ir c ≡ start_of image.layout Constant + 4 * class_words Constant (take c ir.cells) =
-              ap (λ (x : Class). first_address image.layout x + 4 * class_words x (take c ir.cells)) same in
+          ap (λ (x : Class). first_address image.layout x + 4 * class_words x (take c ir.cells)) same in
           let place : at ≡ start_of image.layout Constant + 4 * k = omega (arith, home) in
           let lies : LiesIn image.layout Constant at = LiesIn-class_at image.layout at Constant (at-home.classes c i below ∙ ap (λ (x : Class). Some x) same) in
           static-inside image.layout (static_bytes image) at k place (omega (arith, lies, place))

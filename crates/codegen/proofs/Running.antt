@@ -1,9 +1,9 @@
 -- Whole runs: the machine on the code of flat code, and flat code.
-use Rattle.std.proofs.Common.{◌≡◌, ◌≢◌, ℕ, zero, suc, ◌+◌, ◌-◌, ◌*◌, ◌^◌, ◌<◌, ◌≤◌, ◌⊎◌, inl, inr, Bool, true, false, cond, not, ◌==◌, ◌&&◌, nat_lt, List, [], ◌∷◌, ◌++◌, length, Option, Some, None, arith, refl, sym, ◌∙◌, ap, subst}
+use Rattle.std.proofs.Common.{◌≡◌, ℕ, zero, suc, ◌+◌, ◌-◌, ◌^◌, ◌<◌, ◌≤◌, inl, inr, Bool, true, false, ◌&&◌, nat_lt, List, [], ◌∷◌, ◌++◌, length, Option, Some, None, arith, refl, sym, ◌∙◌, ap, subst}
 use Rattle.std.proofs.lemmas.Bool.{true≢false, cases_lt}
 use Rattle.std.specs.List.{slice_get}
 use Rattle.execution.specs.Run.{Next, Goes, Stops, and_then, run, state_of}
-use Rattle.execution.specs.Traffic.{Element, Entry, Traffic, Extends}
+use Rattle.execution.specs.Traffic.{Traffic, Extends}
 use Rattle.execution.specs.Naming.{traffic_named}
 use Rattle.execution.proofs.RunLemmas.{run-+, run-ended, ends-one, run-keeps}
 use Rattle.execution.proofs.TrafficLemmas.{extends-refl}
@@ -17,20 +17,17 @@ use Rattle.orbis_core.specs.Ideal.{Ideal, IdealEnd, ideal_step, from_entries}
 use Rattle.orbis_core.specs.IdealLaws.{IsWholeState}
 use Rattle.orbis_core.proofs.IdealLemmas.{run-extends}
 use Rattle.orbis_core.proofs.WholeLemmas.{steps-whole, entries-give}
-use Rattle.ir_code.specs.declared.Ir.{Ir}
 use Rattle.ir_code.specs.declared.Op.{Op}
 use Rattle.ir_code.specs.declared.Op.TheVariants as op
 use Rattle.ir_code.specs.OpTable.{weight_of, slots_of, link_cells}
-use Rattle.ir_code.specs.FlatLaws.{IsLater}
 use Rattle.ir_code.specs.FlatStates as flat
 use Rattle.ir_code.specs.FlatStates.{FlatState, FlatEnd, Step, class_of, is_shared, fetched}
-use Rattle.ir_code.specs.FlatMeaning.{effect, at_op, flat_step}
+use Rattle.ir_code.specs.FlatMeaning.{at_op, flat_step}
 use Rattle.ir_code.specs.Lawful.{HasForm, all_hold, named_by, keeps_links}
 use Rattle.codegen.specs.OpInstructions.{instructions_of}
 use Rattle.codegen.specs.ImageCode.{offset_of}
 use Rattle.codegen.specs.EmittedImage.{machine_end}
-use Rattle.codegen.proofs.Registers.{Registers}
-use Rattle.codegen.proofs.Comes.{World, Fits, HasCode, sites, standing, Related, Comes, ComesTo, Reaches, Ends, AtLeast, address_of, steps_of}
+use Rattle.codegen.proofs.Comes.{World, Fits, HasCode, sites, standing, Related, Comes, ComesTo, AtLeast, address_of, steps_of}
 use Rattle.codegen.proofs.Ops.{Here, Does, takes_step, const, copy, unary-op, binary-op, test, non-zero, load, store, label, jump, jump-zero, arg, param, call, save-link, return, set-result, result, input, release, check, suspend, set-private, set-public, exit}
 
 -- ---- what the form says of an operation
@@ -121,7 +118,8 @@ module _ (w : World) (l : Laid w) where
         tied = x.tied;
         small = λ a. subst (λ (m : ℕ → ℕ). m a < 2 ^ 32) memory (whole.words a);
         handed = x.handed;
-        code = l.stands f.place o there } in
+        code = l.stands f.place o there;
+      } in
       subst (λ (t : Ideal). Comes w (takes_step o) (weight_of o) t (flat_step w.loose w.ir f)) (sym x.is)
       (subst (λ (n : Step). Comes w (takes_step o) (weight_of o) (standing w (address_of w f.place) x.flag x.registers f x.memory) n) (sym (ap (λ (found : Option Op). at_op w.loose w.ir found f) there))
       (does f o there x.flag x.registers x.memory here))
@@ -229,19 +227,29 @@ module _ (w : World) (l : Laid w) where
           let weight : g.weight ≡ f.weight + weight_of o = counted f g o (Goes g) there e' in
           let few : x.n ≤ weight_of o = x.few in
           let few' : r.1.n ≤ r.0 = r.1.few in
-          let bound : r.0 + g.weight ≤ at.weight = r.2 in
-          (x.n + r.0,
-          record { n = x.n + r.1.n; few = omega (arith, few, few'); moved = tt; final = r.1.final; to = r.1.to; ran = joined x.n r.1.n s x.to (Stops r.1.final r.1.to) x.ran r.1.ran; ending = r.1.ending; traffic = r.1.traffic },
-          omega (arith, few, weight, bound))
+          let bound : r.0 + g.weight ≤ at.weight = r.2 in (
+            x.n + r.0,
+            record { n = x.n + r.1.n; few = omega (arith, few, few'); moved = tt; final = r.1.final; to = r.1.to; ran = joined x.n r.1.n s x.to (Stops r.1.final r.1.to) x.ran r.1.ran; ending = r.1.ending; traffic = r.1.traffic },
+            omega (arith, few, weight, bound),
+          )
       go o there (Stops final g) e' ended x later =
           let same = same-end final end g at ended in
           let fin = finished w f s (takes_step o) (weight_of o) final g (stuck-not f g final e' never) x in
           let weight : g.weight ≡ f.weight + weight_of o = counted f g o (Stops final g) there e' in
-          let weights : g.weight ≡ at.weight = ap (λ (y : FlatState). y.weight) same.1 in
-          (weight_of o,
-          record { n = fin.n; few = fin.few; moved = tt; final = fin.final; to = fin.to; ran = fin.ran; ending = ap machine_end (sym same.0) ∙ fin.ending;
-            traffic = fin.traffic ∙ ap (λ (y : FlatState). traffic_named w.name y.traffic) same.1 },
-          omega (arith, weight, weights))
+          let weights : g.weight ≡ at.weight = ap (λ (y : FlatState). y.weight) same.1 in (
+            weight_of o,
+            record {
+              n = fin.n;
+              few = fin.few;
+              moved = tt;
+              final = fin.final;
+              to = fin.to;
+              ran = fin.ran;
+              ending = ap machine_end (sym same.0) ∙ fin.ending;
+              traffic = fin.traffic ∙ ap (λ (y : FlatState). traffic_named w.name y.traffic) same.1;
+            },
+            omega (arith, weight, weights),
+          )
 
 -- ---- and back
 
@@ -267,9 +275,9 @@ module _ (w : World) (l : Laid w) where
       let one : run (flat_step w.loose w.ir) 1 f ≡ Stops end g = ap (λ (x : Step). and_then x (run (flat_step w.loose w.ir) 0)) e in
       let jumps : g.jumps ≤ f.jumps + 1 = subst (λ (x : Step). (state_of x).jumps ≤ f.jumps + 1) e once in
       let long : steps_of w (suc k + fin.n) s ≡ Stops fin.final fin.to =
-          subst (λ (n : ℕ). steps_of w n s ≡ Stops fin.final fin.to) (omega arith) (run-ended (ideal_step w.layout w.loose) fin.n (suc k) s fin.to fin.final fin.ran) in
+      subst (λ (n : ℕ). steps_of w n s ≡ Stops fin.final fin.to) (omega arith) (run-ended (ideal_step w.layout w.loose) fin.n (suc k) s fin.to fin.final fin.ran) in
       let front : Extends (state_of (steps_of w (suc k) s)).traffic fin.to.traffic =
-          subst (λ (x : Next Ideal IdealEnd). Extends (state_of (steps_of w (suc k) s)).traffic (state_of x).traffic) long (front-of (suc k) fin.n s) in
+      subst (λ (x : Next Ideal IdealEnd). Extends (state_of (steps_of w (suc k) s)).traffic (state_of x).traffic) long (front-of (suc k) fin.n s) in
       record {
         ops = 1;
         jumped = subst (λ (x : Step). (state_of x).jumps ≤ f.jumps + suc k) (sym one) (omega (arith, jumps));
@@ -290,7 +298,7 @@ module _ (w : World) (l : Laid w) where
       let jumps : g.jumps ≤ f.jumps + 1 = subst (λ (y : Step). (state_of y).jumps ≤ f.jumps + 1) e once in
       let whole : suc k + (x.n - suc k) ≡ x.n = omega (arith, inside) in
       let front : Extends (state_of (steps_of w (suc k) s)).traffic x.to.traffic =
-          subst (λ (y : Next Ideal IdealEnd). Extends (state_of (steps_of w (suc k) s)).traffic (state_of y).traffic) (ap (λ (n : ℕ). steps_of w n s) whole ∙ x.ran) (front-of (suc k) (x.n - suc k) s) in
+      subst (λ (y : Next Ideal IdealEnd). Extends (state_of (steps_of w (suc k) s)).traffic (state_of y).traffic) (ap (λ (n : ℕ). steps_of w n s) whole ∙ x.ran) (front-of (suc k) (x.n - suc k) s) in
       record {
         ops = 1;
         jumped = subst (λ (y : Step). (state_of y).jumps ≤ f.jumps + suc k) (sym one) (omega (arith, jumps));

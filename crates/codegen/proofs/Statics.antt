@@ -1,11 +1,9 @@
 -- The words of an image before the first step.
-use Rattle.std.proofs.Common.{◌≡◌, ◌≢◌, ℕ, zero, suc, ◌+◌, ◌-◌, ◌*◌, ◌/◌, ◌%◌, ◌^◌, ◌<◌, ◌≤◌, Bool, true, false, cond, ◌==◌, ◌&&◌, nat_le, nat_lt, if◌then◌else◌, List, [], ◌∷◌, ◌++◌, length, map, take, replicate, Option, Some, None, arith, refl, sym, ◌∙◌, ap, subst, append_assoc}
+use Rattle.std.proofs.Common.{◌≡◌, ℕ, zero, suc, ◌+◌, ◌-◌, ◌*◌, ◌/◌, ◌^◌, ◌<◌, ◌≤◌, Bool, true, false, cond, ◌==◌, ◌&&◌, nat_le, nat_lt, if◌then◌else◌, List, [], ◌∷◌, ◌++◌, length, map, take, replicate, Option, Some, None, arith, refl, ◌∙◌, ap, subst, append_assoc}
 use Rattle.std.proofs.lemmas.Bool.{eqb-true, leb-true, leb-false, ltb-true, ltb-false}
-use Rattle.std.proofs.lemmas.Bool.Decides.{nat_tests}
-use Rattle.std.proofs.lemmas.List.{length-append}
 use Rattle.std.proofs.lemmas.List.Sums.{sum_by-cons}
 use Rattle.std.specs.Prelude.{slice_index}
-use Rattle.std.specs.List.{slice_get, AllByRecursion, flat_map}
+use Rattle.std.specs.List.{slice_get, AllByRecursion}
 use Rattle.std.specs.Int.{w32, to_be_bytes}
 use Rattle.regions.specs.declared.Class.{Class}
 use Rattle.regions.specs.declared.Class.TheVariants.{Open, Verified, Private, Constant, Code, Logged}
@@ -16,13 +14,13 @@ use Rattle.orbis_word.specs.declared.Instr.{Instr}
 use Rattle.orbis_word.specs.Reading.{instruction_in}
 use Rattle.orbis_core.specs.ByteOrder.{bytes_of, words_in}
 use Rattle.orbis_core.specs.Ideal.{static_memory}
-use Rattle.orbis_core.proofs.FlatLaws.{words_in-bytes_of, length-bytes_of}
+use Rattle.orbis_core.proofs.FlatLaws.{words_in-bytes_of}
 use Rattle.ir_code.specs.declared.Cell.{Cell}
 use Rattle.ir_code.specs.Lawful.{all_hold, has_first, is_constant}
 use Rattle.region_plan.specs.Homes.{class_words, words_for}
 use Rattle.codegen.specs.ImageCode.{constant_words}
 use Rattle.codegen.specs.EmittedImage.{HasFirstWords}
-use Rattle.codegen.proofs.Comes.{World, HasCode, Stands, StandAll}
+use Rattle.codegen.proofs.Comes.{World, StandAll}
 
 -- ---- lists
 
@@ -109,7 +107,7 @@ constant-at [] c i cell rest there constant below firsts = absurd (no-cell cell 
 constant-at (x ∷ cells) zero i cell rest there constant below firsts =
     let same : x ≡ cell = some-cell x cell there in
     let own : cond (is_constant x.class) x.first [] ≡ cell.first =
-        ap (λ (y : Cell). cond (is_constant y.class) y.first []) same ∙ ap (λ (t : Bool). cond t cell.first []) constant in
+    ap (λ (y : Cell). cond (is_constant y.class) y.first []) same ∙ ap (λ (t : Bool). cond t cell.first []) constant in
     let none : class_words Constant (take zero (x ∷ cells)) + i ≡ i = omega arith in
     ap (λ (n : ℕ). slice_index ((cond (is_constant x.class) x.first [] ++ constant_words cells) ++ rest) n) none
     ∙ ap (λ (t : List ℕ). slice_index t i) (append_assoc (cond (is_constant x.class) x.first []) (constant_words cells) rest)
@@ -174,13 +172,14 @@ module _ (w : World) where
       let at : ℕ = start_of w.layout Code + 4 * k in
       let same : at ≡ start_of w.layout Code + 4 * (k + 0) = omega arith in
       let next : start_of w.layout Code + 4 * (k + 1) ≡ at + 4 = omega arith in
-      let end : start_of w.layout Code + 4 * (k + 1 + length is) ≡ start_of w.layout Code + 4 * (k + length (i ∷ is)) = omega arith in
-      (record {
-        code = class_at-LiesIn w.layout at Code (omega arith, omega (arith, few));
-        aligned = omega arith;
-        is = ap (λ (n : ℕ). instruction_in (w.static n)) same ∙ ap instruction_in (there 0 (omega arith)) ∙ both.0;
-      },
-      subst (λ (n : ℕ). StandAll w n is (start_of w.layout Code + 4 * (k + length (i ∷ is)))) next
-      (subst (λ (n : ℕ). StandAll w (start_of w.layout Code + 4 * (k + 1)) is n) end
-      (words-stand words is (k + 1) both.1 (omega (arith, few))
-      (λ j below. ap (λ (n : ℕ). w.static (start_of w.layout Code + 4 * n)) (let f : k + 1 + j ≡ k + suc j = omega arith in f) ∙ there (suc j) (omega (arith, below))))))
+      let end : start_of w.layout Code + 4 * (k + 1 + length is) ≡ start_of w.layout Code + 4 * (k + length (i ∷ is)) = omega arith in (
+        record {
+          code = class_at-LiesIn w.layout at Code (omega arith, omega (arith, few));
+          aligned = omega arith;
+          is = ap (λ (n : ℕ). instruction_in (w.static n)) same ∙ ap instruction_in (there 0 (omega arith)) ∙ both.0;
+        },
+        subst (λ (n : ℕ). StandAll w n is (start_of w.layout Code + 4 * (k + length (i ∷ is)))) next
+            (subst (λ (n : ℕ). StandAll w (start_of w.layout Code + 4 * (k + 1)) is n) end
+            (words-stand words is (k + 1) both.1 (omega (arith, few))
+            (λ j below. ap (λ (n : ℕ). w.static (start_of w.layout Code + 4 * n)) (let f : k + 1 + j ≡ k + suc j = omega arith in f) ∙ there (suc j) (omega (arith, below))))),
+      )

@@ -1,3 +1,7 @@
 //! Instruction words for flat code: which instructions each operation becomes, where they stand, and that they do on the ideal
 //! machine what the flat code means.
 #![tactic(auto)]
+
+mod laws;
+
+pub use laws::images_mean_code;
