@@ -1,2 +1,3 @@
 pub mod EventLists
+pub mod EntryEvents
 mod PadExamples

@@ -1,3 +1,4 @@
 pub mod PrivatePads
 pub mod PadLaws
 pub mod MemoryStands
+pub mod MemoryEntry

@@ -1,5 +1,5 @@
 //! The secure memory.
-ghost use Rattle.std.specs.Prelude.{◌≡◌, ◌+◌, ◌≤◌, [], length, IfErr, IsTrue, OnOk, ◌↔◌};
+ghost use Rattle.std.specs.Prelude.{◌≡◌, ℕ, ◌+◌, ◌<◌, ◌≤◌, [], length, IfErr, IsTrue, OnOk, Some, ◌↔◌};
 ghost use Rattle.std.specs.FinMap.{empty};
 ghost use Rattle.std.specs.Borrow.{Lends, sem};
 ghost use mir.Syntax.{named};
@@ -9,10 +9,13 @@ ghost use Rattle.regions.specs.declared.rights.Mode.TheVariants.{Std, Te};
 ghost use Rattle.off_chip.specs.BusCalls.{TellsOnly};
 ghost use Rattle.off_chip.specs.Epochs.{IsQuiet};
 ghost use Rattle.off_chip.specs.Histories.{History, history};
-ghost use Rattle.stamp_log.specs.LogEvents.{RunsCheck};
+ghost use Rattle.off_chip.specs.OffChipBytes.{static_blocks};
+ghost use Rattle.regions.specs.Tree.{tree_blocks};
+ghost use Rattle.stamp_log.specs.LogEvents.{RunsCheck, zero_payload};
 ghost use Rattle.stamp_log.specs.LogState.{value_under};
 ghost use Rattle.stamp_log.specs.OfflineCheck.{IsCause, PassedFaithful};
-ghost use Rattle.stamp_log.specs.StandsOn.{IsNew, StandsOn};
+ghost use Rattle.stamp_log.specs.StandsOn.{IsNew, StandsOn, contents_of};
+ghost use Rattle.secure_memory.specs.MemoryEntry.{EntersMemory};
 ghost use Rattle.secure_memory.specs.MemoryStands.{IsOfLayout, MemoryStands};
 
 use crate::pads::PrivatePad;
@@ -20,7 +23,7 @@ use aegis_num::Stamps;
 use arrayvec::ArrayVec;
 use hash_tree::Tree;
 use line_cache::{Lines, Pins};
-use off_chip::OffChip;
+use off_chip::{Mark, OffChip};
 use regions::{Layout, ModeUnit};
 use stamp_log::{LogCause, StampLog};
 
@@ -145,6 +148,36 @@ impl<'a, O: OffChip, L: Lines> SecureMemory<'a, O, L> {
             modes: mode_unit,
             layout,
         }
+    }
+
+    /// Enters the program: the mark is noted, the tree is entered, and the blocks of the log are written with zeros. It is the
+    /// first call after `new`, and is made once. The mode stays as it is. The answer is the digest of the program that was
+    /// read. Takes room for `1 + S + T + L` events, where `S` is how many static blocks there are, `T` how many blocks the tree
+    /// has and `L` how many the log has.
+    pub fn enter(&mut self) -> [u8; 20]
+        requires unused { O.trace self.old.lent.now ≡ [] }
+        requires lines { L.lines self.old.tree.lines ≡ empty }
+        requires log { IsNew self.old.log }
+        requires stamps { self.old.stamps ≡ 0 }
+        requires parts { IsOfLayout self.old.layout self.old.tree self.old.log }
+        requires has_room { 1 + (static_blocks self.old.layout + tree_blocks self.old.layout)
+            + self.old.layout.log ≤ O.room self.old.lent.now }
+        requires told { TellsOnly self.old.layout (O.layout self.old.lent.now) }
+        ensures stands { MemoryStands self.new.layout self.new.tree
+            (L.lines self.new.tree.lines) self.new.log self.new.stamps (O.trace self.new.lent.now) }
+        ensures does { EntersMemory self.old.tree self.new.tree (L.lines self.new.tree.lines)
+            (O.trace self.new.lent.now) result }
+        ensures log { (n : ℕ) → n < self.old.layout.log
+            → contents_of self.new.log (history (O.trace self.new.lent.now)) n ≡ Some zero_payload }
+        ensures modes { self.new.mode_unit ≡ self.old.mode_unit }
+        ensures layout { self.new.layout ≡ self.old.layout }
+        ensures same { O.same_memory self.old.lent.now self.new.lent.now }
+        ensures same_reference { self.new.lent.ghost_name ≡ self.old.lent.ghost_name }
+    {
+        self.lent.note(Mark::Enter);
+        let digest = self.tree.enter(&mut *self.lent, &mut self.stamps);
+        self.log.start(&mut *self.lent, &mut self.stamps);
+        digest
     }
 
     /// The mode, to be changed by the instructions that change it.
