@@ -87,10 +87,10 @@ module _ (loose : Class → Bool) (ir : Ir) (image : Image) (lawful : IsLawful l
       let bytes : 4 * length constants ≡ 64 * image.layout.constants = sym (length-bytes_of constants) ∙ sym (ap length is.constants) ∙ image.constants_whole in
       omega (arith, bytes)
 
-  code-whole : length image.code ≡ 16 * image.layout.code
+  pub code-whole : length image.code ≡ 16 * image.layout.code
   code-whole = image.code_whole
 
-  static-code : (j : ℕ) → j < length image.code → static_memory image.layout (static_bytes image) (start_of image.layout Code + 4 * (0 + j)) ≡ slice_index image.code j
+  pub static-code : (j : ℕ) → j < length image.code → static_memory image.layout (static_bytes image) (start_of image.layout Code + 4 * (0 + j)) ≡ slice_index image.code j
   static-code j below =
       let place : start_of image.layout Code + 4 * (0 + j) ≡ start_of image.layout Constant + 4 * (length constants + j) = omega (arith, constants-whole) in
       static-inside image.layout (static_bytes image) (start_of image.layout Code + 4 * (0 + j)) (length constants + j) place (omega (arith, constants-whole, code-whole, below))

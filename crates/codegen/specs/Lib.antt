@@ -1,3 +1,4 @@
 pub mod EmittedImage
 pub mod ImageCode
 pub mod OpInstructions
+pub mod SoundImages

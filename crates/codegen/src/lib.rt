@@ -4,4 +4,4 @@
 
 mod laws;
 
-pub use laws::images_mean_code;
+pub use laws::{images_are_sound, images_mean_code, sizes_fit_weights};
