@@ -1,6 +1,7 @@
 mod CodeExamples
 pub mod Comes
 pub mod Elements
+mod ImageExamples
 pub mod Imaging
 pub mod Jumping
 pub mod Ops
