@@ -1,25 +1,21 @@
 -- A command halts in one place: where a folder tells its files, there is cause for one answer, failures aside.
 use Rattle.std.specs.Prelude.{◌↔◌, IfSome}
-use Rattle.std.proofs.Common.{◌≡◌, ◌⊎◌, Bool, inl, inr, ⊎_elim, ℕ, List, [], ◌∷◌, Option, None, Some, refl, sym, ◌∙◌, ap, subst}
+use Rattle.std.proofs.Common.{◌≡◌, ◌⊎◌, Bool, inl, inr, ⊎_elim, ℕ, List, Option, None, Some, refl, sym, ◌∙◌, ap, subst}
 use Rattle.aegis_edge.specs.Folder.{Files, Asking, IsMissing, IsTooLong}
 use Rattle.c_grammar.specs.declared.item.Program.{Program}
-use Rattle.c_resolver.specs.Resolving.{plain_program}
-use Rattle.c_semantics.specs.Meaning.{Meaning, mean_alone}
 use Rattle.aegis_words.specs.declared.file.File.{File}
 use Rattle.aegis_words.specs.declared.file.File.TheVariants.{Source, Script, Input}
 use Rattle.aegis_words.specs.CommandTable.{Command, step_after}
 use Rattle.aegis_words.specs.CommandTable as asks
-use Rattle.aegis_words.specs.FileReading.{HasText, Passes, ArePassed}
-use Rattle.aegis_words.specs.FileSteps.{FileStep, limit_for, step_in}
-use Rattle.aegis_words.specs.MeanWordRow.{MeanNames, mean_steps}
-use Rattle.aegis_words.specs.RunWordRow.{RunNames}
-use Rattle.aegis_words.proofs.FileReadingLemmas.{text_once, text_missing, text_too_long, missing_too_long, one_place, passed_alike}
+use Rattle.aegis_words.specs.FileReading.{HasText, Passes}
+use Rattle.aegis_words.specs.FileSteps.{FileStep, limit_for}
+use Rattle.aegis_words.proofs.FileReadingLemmas.{text_once, text_missing, text_too_long, missing_too_long, one_place}
 use Rattle.aegis_run.specs.declared.ends.TopEnd.{TopEnd}
 use Rattle.aegis_run.specs.declared.ends.TopEnd.TheVariants.{Run, Mean, Usage, TooLong, Token, Syntax, Typing, NotYet, NoFile, ReadFault, WriteFault, OutOfMemory}
 use Rattle.aegis_run.specs.Answers.{IsRefusal, IsFailure}
-use Rattle.aegis_run.specs.Causes.{AreTold, Cause, IfMean, IfRun, Serves, Stops, IsOwn, Completes, CauseAt, CauseAtFile, HasCause, IsStoppedByText, RefusesWhere}
+use Rattle.aegis_run.specs.Causes.{AreTold, Cause, IfRun, Serves, Stops, IsOwn, Completes, CauseAt, CauseAtFile, HasCause, IsStoppedByText, RefusesWhere}
 use Rattle.aegis_run.specs.Literals.{literals_of}
-use Rattle.aegis_run.specs.MeanCommand.{IsOwnOfMean, MeanCommand, MeanMeans, ServesMean, StopsMean, TellsMeaning}
+use Rattle.aegis_run.specs.MeanCommand.{IsOwnOfMean, ServesMean, StopsMean}
 use Rattle.aegis_run.specs.RunCommand.{RunCommand, IsOwnOfRun, ServesRun, StopsRun}
 use Rattle.aegis_run.specs.Report.{Notes, line_of}
 use Rattle.aegis_run.specs.SourceTexts.{IsSource, SourceFault}
@@ -279,9 +275,8 @@ refuses files command before now end why refusal is cause =
     (sound_or_not end)
 
 -- where all files were passed, the answer is the command's own
-own_or_failed : (files : Files) (command : Command) (before now : ℕ) (end : TopEnd) (texts : List (List ℕ)) → HasCause (Some files) command before now end
-    → ArePassed (step_after command) (Serves command) (Some files) texts → step_after command texts ≡ None → IsOwn command end ⊎ IsFailure end
-own_or_failed files command before now end texts why passed last =
+completes : (files : Files) (command : Command) (before now : ℕ) (end : TopEnd) → HasCause (Some files) command before now end → Completes (Some files) command end
+completes files command before now end why texts passed last =
     ⊎_elim
     (λ (failure : IsFailure end). inr failure)
     (λ (sound : IsFailure end → ⊥).
@@ -295,46 +290,6 @@ own_or_failed files command before now end texts why passed last =
     (λ (out : end ≡ OutOfMemory). let P : TopEnd → Type 0 = λ end. IsFailure end in inr (subst P (sym out) tt))
     there)
     (sound_or_not end)
-
--- a `mean` means one thing
-one_meaning : (files : Files) (names : MeanNames) (m n : Meaning) → MeanMeans (Some files) names m → MeanMeans (Some files) names n → m ≡ n
-one_meaning files names m n one two =
-    let texts : (one.input ∷ one.source ∷ []) ≡ (two.input ∷ two.source ∷ []) =
-    passed_alike (step_in (mean_steps names)) ServesMean files (one.input ∷ one.source ∷ []) (two.input ∷ two.source ∷ []) refl one.passed two.passed in
-    let input : one.input ≡ two.input = cc in
-    let source : one.source ≡ two.source = cc in
-    let P : List ℕ → Type 0 = λ text. IsSource text one.program in
-    let is : IsSource two.source one.program = subst P source one.is_source in
-    let program : one.program ≡ two.program = one_text two.source one.program two.program is.is_text two.is_source.is_text in
-    sym one.meaning_is ∙ ap (λ program. mean_alone (plain_program program) one.input names.turns) program
-    ∙ ap (λ input. mean_alone (plain_program two.program) input names.turns) input ∙ two.meaning_is
-
-tells : (files : Files) (names : MeanNames) (m : Meaning) (end : TopEnd) (old new : Option (List ℕ)) → MeanMeans (Some files) names m → MeanCommand (Some files) names end old new
-    → IsOwnOfMean end → TellsMeaning m end
-tells files names m (Mean how) old new means done own = done.ended ∙ ap (λ meaning. meaning.end) (one_meaning files names done.meaning m done.means means)
-tells files names m WriteFault old new means done own = tt
-tells files names m (Run how) old new means done own = own
-tells files names m Usage old new means done own = own
-tells files names m (NoFile file) old new means done own = own
-tells files names m (TooLong file) old new means done own = own
-tells files names m (Token error) old new means done own = own
-tells files names m (Syntax error) old new means done own = own
-tells files names m (Typing error) old new means done own = own
-tells files names m (NotYet file) old new means done own = own
-tells files names m ReadFault old new means done own = own
-tells files names m OutOfMemory old new means done own = own
-
-pub run_completes : (files : Files) (names : RunNames) (before now : ℕ) (end : TopEnd) → HasCause (Some files) (asks.Run names) before now end → Completes (Some files) (asks.Run names) end
-run_completes files names before now end why meaning means =
-    own_or_failed files (asks.Run names) before now end (means.input ∷ means.script ∷ means.source ∷ []) why means.passed refl
-
-pub mean_completes : (files : Files) (names : MeanNames) (before now : ℕ) (end : TopEnd) (old new : Option (List ℕ)) → HasCause (Some files) (asks.Mean names) before now end
-    → MeanCommand (Some files) names end old new → Completes (Some files) (asks.Mean names) end
-mean_completes files names before now end old new why done meaning means =
-    ⊎_elim
-    (λ (own : IsOwnOfMean end). inl (tells files names meaning end old new means done own))
-    (λ (failure : IsFailure end). inr failure)
-    (own_or_failed files (asks.Mean names) before now end (means.input ∷ means.source ∷ []) why means.passed refl)
 
 -- ---- words
 
@@ -357,12 +312,11 @@ refused_where None row before now old new end cause told = absurd told
 refused_where (Some files) None before now old new end cause told = tt
 refused_where (Some files) (Some command) before now old new end cause told = refuses files command before now end cause.why
 
-pub complete_where : (files : Option Files) (row : Option Command) (before now : ℕ) (old new : Option (List Asking)) (end : TopEnd) (written written' : Option (List ℕ))
-    → Cause files row before now old new end → IfMean row (λ names. MeanCommand files names end written written') → AreTold files → IfSome row (λ command. Completes files command end)
-complete_where None row before now old new end written written' cause mean told = absurd told
-complete_where (Some files) None before now old new end written written' cause mean told = tt
-complete_where (Some files) (Some (asks.Run names)) before now old new end written written' cause mean told = run_completes files names before now end cause.why
-complete_where (Some files) (Some (asks.Mean names)) before now old new end written written' cause mean told = mean_completes files names before now end written written' cause.why mean
+pub complete_where : (files : Option Files) (row : Option Command) (before now : ℕ) (old new : Option (List Asking)) (end : TopEnd) → Cause files row before now old new end
+    → AreTold files → IfSome row (λ command. Completes files command end)
+complete_where None row before now old new end cause told = absurd told
+complete_where (Some files) None before now old new end cause told = tt
+complete_where (Some files) (Some command) before now old new end cause told = completes files command before now end cause.why
 
 -- a run and its line count alike
 pub run_line : (files : Option Files) (row : Option Command) (end answer : TopEnd) (retired : ℕ) (noted : Bool) (old new before after : Option (List ℕ)) → answer ≡ end

@@ -21,7 +21,7 @@ use Rattle.aegis_run.specs.Causes.{Stops, CauseAt, CauseAtFile, IsAnswered}
 use Rattle.aegis_run.specs.Code.{SendsOnly}
 use Rattle.aegis_run.specs.Literals.{literals_of, released}
 use Rattle.aegis_run.specs.MeanCommand.{MeanMeans, MeanCommand}
-use Rattle.aegis_run.specs.Reading.{AcceptCause, HasRead, NotRunCause, RunReady, MeanReady, SendsMeaning, Writes}
+use Rattle.aegis_run.specs.FilesRead.{AcceptCause, HasRead, NotRunCause, RunReady, MeanReady, SendsMeaning, Writes}
 use Rattle.aegis_run.specs.RunCommand.{RunMeans, RunCommand, turns_with}
 use Rattle.aegis_run.specs.Answers.{IsWriteFault, RisesWhere}
 use Rattle.aegis_run.specs.SourceTexts.{IsSource, SourceFault}
@@ -171,11 +171,11 @@ run_means : (files : Option Files) (names : RunNames) (before now : ℕ) (old ne
     (ready : RunReady files names before now old new literals input) → RunMeans files names (mean_alone (plain_program ready.program) input (turns_with names.fuel))
 run_means files names before now old new literals input ready = record {
   source = ready.source;
-  script = [];
   input = input;
-  passed = ready.read.passed;
+  has_source = ready.read.passed.0.0.1.0.whole;
+  has_input = ready.read.passed.1.0.whole;
   program = ready.program;
-  is_source = ready.is_source;
+  is_program = ready.is_source.is_text;
   meaning_is = refl;
 }
 
@@ -283,7 +283,15 @@ mean_sent files names before now old new program input written written' end read
     meaning = mean_alone (plain_program program) input names.turns
 
     means : MeanMeans files names (mean_alone (plain_program program) input names.turns)
-    means = record { source = ready.source; input = input; passed = ready.read.passed; program = program; is_source = ready.is_source; meaning_is = refl }
+    means = record {
+      source = ready.source;
+      input = input;
+      has_source = ready.read.passed.0.1.0.whole;
+      has_input = ready.read.passed.1.0.whole;
+      program = program;
+      is_program = ready.is_source.is_text;
+      meaning_is = refl;
+    }
 
     go : (end : TopEnd) → SendsMeaning end written written' (mean_alone (plain_program program) input names.turns) → MeanCommand files names end written written'
     go (Mean how) sends = record { meaning = mean_alone (plain_program program) input names.turns; means = means; ended = sends.0; bytes = sends.1 }

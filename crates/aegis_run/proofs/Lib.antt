@@ -10,4 +10,5 @@ mod MeaningLemmas
 mod ReadingLemmas
 mod SourceLemmas
 mod SyntaxLemmas
+mod ToldExamples
 mod TypingLemmas

@@ -10,7 +10,7 @@ use Rattle.aegis_run.specs.declared.ends.TopEnd.{TopEnd}
 use Rattle.aegis_run.specs.declared.ends.TopEnd.TheVariants.{Run, Mean, Usage, TooLong, Token, Syntax, Typing, NotYet, NoFile, ReadFault, WriteFault, OutOfMemory}
 use Rattle.aegis_run.specs.Answers.{IsFileFault}
 use Rattle.aegis_run.specs.Causes.{Serves, CauseAt, CauseAtFile, IsAnswered}
-use Rattle.aegis_run.specs.Reading.{HasRead, IsStopped, OpenCause, Writes}
+use Rattle.aegis_run.specs.FilesRead.{HasRead, IsStopped, OpenCause, Writes}
 
 -- what was asked for one after another was asked for in all
 then_asked : (old middle new : Option (List Asking)) (first later : List Asking) → Asks old middle first → Asks middle new later → Asks old new (first ++ later)

@@ -5,7 +5,7 @@ use Rattle.c_reader.specs.declared.error.SyntaxError.TheVariants as syntax
 use Rattle.c_reader.specs.SourceText.{HasTokens, IsRefusedAs}
 use Rattle.c_token.specs.declared.kinds.Token.{Token}
 use Rattle.c_token.specs.PlainText.{kinds_of}
-use Rattle.aegis_run.specs.Reading.{AcceptCause, end_of_syntax}
+use Rattle.aegis_run.specs.FilesRead.{AcceptCause, end_of_syntax}
 
 pub syntax_refused : (text : List ℕ) (tokens items : List Token) (error : SyntaxError) → HasTokens text items → tokens ≡ items → IsRefusedAs (kinds_of tokens) error
     → AcceptCause text (end_of_syntax error)

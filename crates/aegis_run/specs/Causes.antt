@@ -12,8 +12,8 @@ use Rattle.aegis_words.specs.RunWordRow.{RunNames}
 use Rattle.aegis_run.specs.declared.ends.TopEnd.{TopEnd}
 use Rattle.aegis_run.specs.declared.ends.TopEnd.TheVariants.{Run, Mean, Usage, TooLong, Token, Syntax, Typing, NotYet, NoFile, ReadFault, WriteFault, OutOfMemory}
 use Rattle.aegis_run.specs.Answers.{IsRefusal, IsFailure}
-use Rattle.aegis_run.specs.MeanCommand.{ServesMean, StopsMean, IsOwnOfMean, MeanCompletes}
-use Rattle.aegis_run.specs.RunCommand.{ServesRun, StopsRun, IsOwnOfRun, RunCompletes}
+use Rattle.aegis_run.specs.MeanCommand.{ServesMean, StopsMean, IsOwnOfMean}
+use Rattle.aegis_run.specs.RunCommand.{ServesRun, StopsRun, IsOwnOfRun}
 
 -- ---- a line for each command
 
@@ -31,11 +31,6 @@ Stops (asks.Mean names) = StopsMean
 abbrev pub IsOwn : Command → TopEnd → Type 0
 IsOwn (asks.Run names) = IsOwnOfRun
 IsOwn (asks.Mean names) = IsOwnOfMean
-
--- where the files of a command were read, it answers so
-abbrev pub Completes : Option Files → Command → TopEnd → Type 0
-Completes files (asks.Run names) = RunCompletes files names
-Completes files (asks.Mean names) = MeanCompletes files names
 
 -- a fact of the names of a run, where the words are one
 abbrev pub IfRun : Option Command → (RunNames → Type 0) → Type 0
@@ -103,3 +98,8 @@ AreTold (Some files) = Unit {0}
 abbrev pub RefusesWhere : Option Files → Command → ℕ → TopEnd → Type 0
 RefusesWhere files command before end = (refusal : TopEnd) → IsRefusal refusal → HasCause files command before before refusal
     → (end ≡ refusal) ⊎ IsFailure end
+
+-- where all files of a command were read and let it go on, the answer is one of its own, or memory ran out or a file failed before
+abbrev pub Completes : Option Files → Command → TopEnd → Type 0
+Completes files command end = (texts : List (List ℕ)) → ArePassed (step_after command) (Serves command) files texts
+    → step_after command texts ≡ None → IsOwn command end ⊎ IsFailure end

@@ -1,9 +1,10 @@
 pub mod Answers
 pub mod Causes
 pub mod Code
+pub mod FilesRead
 pub mod Literals
 pub mod MeanCommand
-pub mod Reading
 pub mod Report
 pub mod RunCommand
+pub mod SourceMeaning
 pub mod SourceTexts

@@ -1,20 +1,17 @@
--- Promise: the command `mean`: what lets it go on and what stops it, when it has its own answer, and what goes out.
-use Rattle.std.specs.Prelude.{◌≡◌, ◌⊎◌, ℕ, List, [], ◌∷◌, Option}
+-- Promise: the command `mean`: what lets it go on and what stops it, which answers are its own, and what goes out.
+use Rattle.std.specs.Prelude.{◌≡◌, ℕ, List, Option}
 use Rattle.aegis_edge.specs.Folder.{Files}
 use Rattle.aegis_edge.specs.Sink.{Appends, AppendsFront}
 use Rattle.c_evaluator.specs.declared.mean_end.MeanEnd.{MeanEnd}
 use Rattle.c_evaluator.specs.MachineStates.{end_of}
 use Rattle.c_grammar.specs.declared.item.Program.{Program}
-use Rattle.c_resolver.specs.Resolving.{plain_program}
-use Rattle.c_semantics.specs.Meaning.{Meaning, mean_alone}
+use Rattle.c_semantics.specs.Meaning.{Meaning}
 use Rattle.aegis_words.specs.declared.file.File.{File}
 use Rattle.aegis_words.specs.declared.file.File.TheVariants.{Source, Script, Input}
-use Rattle.aegis_words.specs.FileReading.{ArePassed}
-use Rattle.aegis_words.specs.FileSteps.{step_in}
-use Rattle.aegis_words.specs.MeanWordRow.{MeanNames, mean_steps}
+use Rattle.aegis_words.specs.MeanWordRow.{MeanNames}
 use Rattle.aegis_run.specs.declared.ends.TopEnd.{TopEnd}
 use Rattle.aegis_run.specs.declared.ends.TopEnd.TheVariants.{Mean, WriteFault}
-use Rattle.aegis_run.specs.Answers.{IsFailure}
+use Rattle.aegis_run.specs.SourceMeaning.{SourceMeans}
 use Rattle.aegis_run.specs.SourceTexts.{IsSource, SourceFault}
 
 -- the text of a file lets a `mean` go on; it reads no script
@@ -29,14 +26,9 @@ StopsMean Source text end = SourceFault text end
 StopsMean Script text end = ⊥
 StopsMean Input text end = ⊥
 
--- the files of a `mean` were read, and its program on its input means this, where no class is loose
-pub record MeanMeans (files : Option Files) (names : MeanNames) (meaning : Meaning) : Type 0 where
-  pub source : List ℕ
-  pub input : List ℕ
-  pub passed : ArePassed (step_in (mean_steps names)) ServesMean files (input ∷ source ∷ [])
-  pub program : Program
-  pub is_source : IsSource source program
-  pub meaning_is : mean_alone (plain_program program) input names.turns ≡ meaning
+-- what the source of a `mean` means on its input
+abbrev pub MeanMeans : Option Files → MeanNames → Meaning → Type 0
+MeanMeans files names meaning = SourceMeans files names.source names.input names.turns meaning
 
 -- a meaning that was told: its end is the answer, and all bytes of it went out
 pub record MeanTold (files : Option Files) (names : MeanNames) (end : MeanEnd) (old new : Option (List ℕ)) : Type 0 where
@@ -62,13 +54,3 @@ abbrev pub IsOwnOfMean : TopEnd → Type 0
 IsOwnOfMean (Mean end) = Unit {0}
 IsOwnOfMean WriteFault = Unit {0}
 IsOwnOfMean end = ⊥
-
--- an answer says how a meaning ends, or that its bytes were not taken
-abbrev pub TellsMeaning : Meaning → TopEnd → Type 0
-TellsMeaning meaning (Mean end) = end_of end ≡ meaning.end
-TellsMeaning meaning WriteFault = Unit {0}
-TellsMeaning meaning end = ⊥
-
--- where the files of a `mean` were read, its answer tells their meaning, or memory ran out or a file failed before
-abbrev pub MeanCompletes : Option Files → MeanNames → TopEnd → Type 0
-MeanCompletes files names end = (meaning : Meaning) → MeanMeans files names meaning → TellsMeaning meaning end ⊎ IsFailure end

@@ -1,22 +1,19 @@
--- Promise: the command `run`: what lets it go on and what stops it, when it has its own answer, and what goes out.
-use Rattle.std.specs.Prelude.{◌≡◌, ◌≢◌, ◌⊎◌, ℕ, ◌+◌, ◌*◌, List, [], ◌∷◌, length, Option, None, Some}
+-- Promise: the command `run`: what lets it go on and what stops it, which answers are its own, and what goes out.
+use Rattle.std.specs.Prelude.{◌≡◌, ◌≢◌, ℕ, ◌+◌, ◌*◌, List, [], length, Option, None, Some}
 use Rattle.aegis_num.specs.declared.limits.TheConstants.{MAX_NESTING}
 use Rattle.aegis_edge.specs.Folder.{Files}
 use Rattle.aegis_edge.specs.Sink.{Appends, AppendsFront}
 use Rattle.c_grammar.specs.declared.item.Program.{Program}
-use Rattle.c_resolver.specs.Resolving.{plain_program}
-use Rattle.c_semantics.specs.Meaning.{Meaning, mean_alone}
+use Rattle.c_semantics.specs.Meaning.{Meaning}
 use Rattle.c_semantics.specs.States as outcome
 use Rattle.aegis_words.specs.declared.file.File.{File}
 use Rattle.aegis_words.specs.declared.file.File.TheVariants.{Source, Script, Input}
-use Rattle.aegis_words.specs.FileReading.{ArePassed}
-use Rattle.aegis_words.specs.FileSteps.{step_in}
-use Rattle.aegis_words.specs.RunWordRow.{RunNames, run_steps}
+use Rattle.aegis_words.specs.RunWordRow.{RunNames}
 use Rattle.aegis_run.specs.declared.ends.End.TheVariants.{Ended, WriteFault}
 use Rattle.aegis_run.specs.declared.ends.TopEnd.{TopEnd}
 use Rattle.aegis_run.specs.declared.ends.TopEnd.TheVariants.{Run, NotYet}
-use Rattle.aegis_run.specs.Answers.{IsFailure}
 use Rattle.aegis_run.specs.Literals.{literals_of}
+use Rattle.aegis_run.specs.SourceMeaning.{SourceMeans}
 use Rattle.aegis_run.specs.SourceTexts.{IsSource, SourceFault}
 
 -- a program that releases literals, one after another, and does nothing else
@@ -40,15 +37,9 @@ StopsRun file text end = ⊥
 abbrev pub turns_with : ℕ → ℕ
 turns_with fuel = MAX_NESTING * (fuel + 1)
 
--- the files of a run were read, and its program on its input means this, where no class is loose
-pub record RunMeans (files : Option Files) (names : RunNames) (meaning : Meaning) : Type 0 where
-  pub source : List ℕ
-  pub script : List ℕ
-  pub input : List ℕ
-  pub passed : ArePassed (step_in (run_steps names)) ServesRun files (input ∷ script ∷ source ∷ [])
-  pub program : Program
-  pub is_source : IsSource source program
-  pub meaning_is : mean_alone (plain_program program) input (turns_with names.fuel) ≡ meaning
+-- what the source of a run means on its input
+abbrev pub RunMeans : Option Files → RunNames → Meaning → Type 0
+RunMeans files names meaning = SourceMeans files names.source names.input (turns_with names.fuel) meaning
 
 -- a run to its end: its meaning ends in order, all bytes of it went out, after two instructions for each and the exit
 pub record RunEnded (files : Option Files) (names : RunNames) (retired : ℕ) (old new : Option (List ℕ)) : Type 0 where
@@ -74,7 +65,3 @@ RunCommand files names end retired old new = new ≡ old
 abbrev pub IsOwnOfRun : TopEnd → Type 0
 IsOwnOfRun (Run end) = Unit {0}
 IsOwnOfRun end = ⊥
-
--- where the files of a run were read, it answers so, or memory ran out or a file failed before
-abbrev pub RunCompletes : Option Files → RunNames → TopEnd → Type 0
-RunCompletes files names end = (meaning : Meaning) → RunMeans files names meaning → IsOwnOfRun end ⊎ IsFailure end

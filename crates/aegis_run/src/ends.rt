@@ -1,6 +1,6 @@
 //! The answers of the program and their exit statuses.
 ghost use Rattle.std.specs.Prelude.{◌≡◌};
-ghost use Rattle.aegis_run.specs.Reading.{end_of_token, end_of_syntax, end_of_type};
+ghost use Rattle.aegis_run.specs.FilesRead.{end_of_token, end_of_syntax, end_of_type};
 ghost use Rattle.aegis_run.specs.Report.{status_when_noted, status_of as status_of_answer};
 
 use aegis_words::File;

@@ -4,7 +4,7 @@ ghost use Rattle.aegis_edge.specs.Folder.{AsksOne};
 ghost use Rattle.aegis_words.specs.FileReading.{HasText};
 ghost use Rattle.aegis_run.specs.Answers.{IsFileFault};
 ghost use Rattle.aegis_run.specs.Literals.{literals_of};
-ghost use Rattle.aegis_run.specs.Reading.{AcceptCause, OpenCause};
+ghost use Rattle.aegis_run.specs.FilesRead.{AcceptCause, OpenCause};
 ghost use Rattle.aegis_run.specs.SourceTexts.{IsSource};
 
 use crate::ends::TopEnd;

@@ -7,7 +7,7 @@ ghost use Rattle.c_semantics.specs.Meaning.{mean_alone};
 ghost use Rattle.aegis_run.specs.Answers.{IsFileFault, IsWriteFault, RisesWhere};
 ghost use Rattle.aegis_run.specs.Causes.{IsAnswered};
 ghost use Rattle.aegis_run.specs.MeanCommand.{MeanCommand};
-ghost use Rattle.aegis_run.specs.Reading.{IsStopped, MeanReady, SendsMeaning};
+ghost use Rattle.aegis_run.specs.FilesRead.{IsStopped, MeanReady, SendsMeaning};
 
 use crate::ends::TopEnd;
 use crate::files::{accept, open};

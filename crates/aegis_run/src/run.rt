@@ -7,7 +7,7 @@ ghost use Rattle.aegis_run.specs.Answers.{IsFileFault, IsWriteFault, RisesWhere}
 ghost use Rattle.aegis_run.specs.Causes.{IsAnswered};
 ghost use Rattle.aegis_run.specs.Code.{Delivers, SendsOnly};
 ghost use Rattle.aegis_run.specs.Literals.{literals_of as literals_are, released};
-ghost use Rattle.aegis_run.specs.Reading.{IsStopped, NotRunCause, RunReady};
+ghost use Rattle.aegis_run.specs.FilesRead.{IsStopped, NotRunCause, RunReady};
 ghost use Rattle.aegis_run.specs.RunCommand.{RunCommand};
 
 use crate::answer::Outcome;

@@ -3,7 +3,7 @@ use Rattle.std.proofs.lemmas.List.{length-map}
 use Rattle.c_token.specs.declared.kinds.Token.{Token}
 use Rattle.c_token.specs.PlainText.{kinds_of}
 use Rattle.aegis_run.specs.Literals.{literals_of}
-use Rattle.aegis_run.specs.Reading.{AcceptCause, end_of_syntax}
+use Rattle.aegis_run.specs.FilesRead.{AcceptCause, end_of_syntax}
 use Rattle.aegis_run.proofs.LengthLemmas.{few_in_program}
 use Rattle.aegis_run.proofs.ReadingLemmas.{handed_on}
 use Rattle.aegis_run.proofs.SyntaxLemmas.{syntax_refused}

@@ -1,8 +1,6 @@
 use Rattle.std.proofs.Common.{sym, subst}
 use Rattle.aegis_words.specs.CommandTable.{command_in}
-use Rattle.aegis_run.specs.declared.ends.TopEnd.{TopEnd}
-use Rattle.aegis_run.specs.Causes.{Cause, IfMean}
-use Rattle.aegis_run.specs.MeanCommand.{MeanCommand}
+use Rattle.aegis_run.specs.Causes.{Cause}
 use Rattle.aegis_run.proofs.CauseLemmas.{usage_where, refused_where, complete_where, run_line}
 use Rattle.aegis_run.proofs.top.aegis.Goals as goal
 
@@ -18,11 +16,8 @@ returns-clause-refused g c =
 
 pub returns-clause-complete : goal.returns-clause-complete
 returns-clause-complete g c =
-    let P : TopEnd → Type 0 = λ end. IfMean (command_in c.args.words.now) (λ names.
-    MeanCommand (g.F.Folder.files c.args.folder.now) names end (g.K.Sink.written c.args.out.now) (g.K.Sink.written c.answer_words-outcome.new.out)) in
-    complete_where (g.F.Folder.files c.args.folder.now) (command_in c.args.words.now) _ _ _ _ c.noted.result.end (g.K.Sink.written c.args.out.now) (g.K.Sink.written c.answer_words-outcome.new.out)
+    complete_where (g.F.Folder.files c.args.folder.now) (command_in c.args.words.now) _ _ _ _ c.noted.result.end
     (subst (Cause _ _ _ _ _ _) (sym c.noted.ensures.end) c.answer_words-outcome.ensures.cause)
-    (subst P (sym c.noted.ensures.end) c.answer_words-outcome.ensures.mean)
 
 pub returns-clause-run : goal.returns-clause-run
 returns-clause-run g c =
