@@ -1,5 +1,5 @@
 -- The events of entering: those of the tree leave the log unused, and those of the log keep the tree standing.
-use Rattle.std.proofs.Common.{◌≡◌, ℕ, zero, suc, ◌+◌, ◌*◌, Bool, true, false, cond, List, [], ◌∷◌, ◌++◌, refl, sym, subst, append_assoc}
+use Rattle.std.proofs.Common.{◌≡◌, ℕ, zero, suc, ◌+◌, ◌*◌, Bool, true, false, cond, List, [], ◌∷◌, ◌++◌, length, length-append, refl, sym, subst, append_assoc, arith}
 use Rattle.std.specs.Prelude.{map, IsTrue}
 use Rattle.std.proofs.lemmas.List.{append-nil}
 use Rattle.aegis_num.specs.declared.storage.Place.TheVariants.{Log, Tree}
@@ -70,3 +70,8 @@ zeros-elsewhere last (suc n) first before grows =
 
 pub enter-elsewhere : IsElsewhere (Note Enter)
 enter-elsewhere = λ m same. cc
+
+pub zeros-long : (last count : ℕ) → length (zeros_written last count) ≡ count
+zeros-long last zero = refl
+zeros-long last (suc n) =
+    omega (arith, length-append (zeros_written last n) (BlockWrite (Log n) (stamped zero_payload (last + suc n)) ∷ []), zeros-long last n)

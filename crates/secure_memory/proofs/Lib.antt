@@ -1,3 +1,4 @@
 pub mod EventLists
 pub mod EntryEvents
+pub mod OutsideProofs
 mod PadExamples

@@ -6,7 +6,7 @@ use Rattle.regions.specs.declared.layout.Layout.{Layout}
 use Rattle.regions.specs.Tree.{height_of}
 use Rattle.aes_pad.specs.Cipher.{xor_bytes}
 use Rattle.aes_pad.specs.Pads.{pad}
-use Rattle.secure_memory.specs.PrivatePads.{Padding, first_private, is_private_block, padded}
+use Rattle.secure_memory.specs.PrivatePads.{Padding, first_private, is_private_block, hidden_payload}
 
 abbrev layout : Layout
 layout = record { verified = 1; private = 2; constants = 3; code = 4; log = 5; shared = 12; data_fits = lit≤ tt; log_fits = lit≤ tt; shared_fits = lit≤ tt }
@@ -40,10 +40,10 @@ unfolding height_of
 constant-bare = refl
 
 -- what stands off chip for a private payload is its sum with the pad of its number and stamp, and for each other one the payload
-off_chip-private : (key : Key) (payload : List ℕ) → padded (record { key = key; layout = layout }) 15 7 payload ≡ xor_bytes payload (pad key 15 7)
+off_chip-private : (key : Key) (payload : List ℕ) → hidden_payload (record { key = key; layout = layout }) 15 7 payload ≡ xor_bytes payload (pad key 15 7)
 unfolding height_of
 off_chip-private key payload = refl
 
-off_chip-verified : (key : Key) (payload : List ℕ) → padded (record { key = key; layout = layout }) 13 7 payload ≡ payload
+off_chip-verified : (key : Key) (payload : List ℕ) → hidden_payload (record { key = key; layout = layout }) 13 7 payload ≡ payload
 unfolding height_of
 off_chip-verified key payload = refl

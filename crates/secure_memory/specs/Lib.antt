@@ -2,3 +2,4 @@ pub mod PrivatePads
 pub mod PadLaws
 pub mod MemoryStands
 pub mod MemoryEntry
+pub mod OutsideEvents

@@ -20,5 +20,5 @@ abbrev pub is_private_block : Layout → ℕ → Bool
 is_private_block layout n = nat_le (first_private layout) n && nat_lt n (first_private layout + layout.private)
 
 -- the payload that stands off chip for a payload on the chip, by the number of the tree block and its stamp, and back
-abbrev pub padded : Padding → ℕ → ℕ → List ℕ → List ℕ
-padded padding n stamp payload = if is_private_block padding.layout n then xor_bytes payload (pad padding.key n stamp) else payload
+abbrev pub hidden_payload : Padding → ℕ → ℕ → List ℕ → List ℕ
+hidden_payload padding n stamp payload = if is_private_block padding.layout n then xor_bytes payload (pad padding.key n stamp) else payload

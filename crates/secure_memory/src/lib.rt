@@ -1,9 +1,11 @@
 //! One secure memory: a hash tree, a log, pads over private blocks and open words, on one bus.
 #![tactic(auto)]
 
+mod laws;
 mod memory;
 mod pads;
 
+pub use laws::outside_events_keep;
 pub use memory::{Parts, SecureMemory};
 pub use pads::PrivatePad;
 

@@ -167,6 +167,10 @@ impl<'a, O: OffChip, L: Lines> SecureMemory<'a, O, L> {
             (L.lines self.new.tree.lines) self.new.log self.new.stamps (O.trace self.new.lent.now) }
         ensures does { EntersMemory self.old.tree self.new.tree (L.lines self.new.tree.lines)
             (O.trace self.new.lent.now) result }
+        ensures count { length (O.trace self.new.lent.now)
+            ≡ 1 + (static_blocks self.old.layout + tree_blocks self.old.layout) + self.old.layout.log }
+        ensures room { O.room self.old.lent.now ≤ O.room self.new.lent.now
+            + (1 + (static_blocks self.old.layout + tree_blocks self.old.layout) + self.old.layout.log) }
         ensures log { (n : ℕ) → n < self.old.layout.log
             → contents_of self.new.log (history (O.trace self.new.lent.now)) n ≡ Some zero_payload }
         ensures modes { self.new.mode_unit ≡ self.old.mode_unit }

@@ -1,6 +1,6 @@
 //! The veil over private blocks.
 ghost use Rattle.std.specs.Prelude.{◌≡◌};
-ghost use Rattle.secure_memory.specs.PrivatePads.{is_private_block, padded};
+ghost use Rattle.secure_memory.specs.PrivatePads.{is_private_block, hidden_payload};
 
 use aes_pad::{Aes, xor_into};
 use hash_tree::Veil;
@@ -46,10 +46,10 @@ impl PrivatePad {
 
 impl Veil for PrivatePad {
     ghost use Rattle.hash_tree.specs.HashTrees.{nodes_of};
-    ghost use Rattle.secure_memory.specs.PrivatePads.{padded};
-    ghost use Rattle.secure_memory.specs.PadLaws.{padded-twice, padded-long, padded-node};
+    ghost use Rattle.secure_memory.specs.PrivatePads.{hidden_payload};
+    ghost use Rattle.secure_memory.specs.PadLaws.{hidden-twice, hidden-long, hidden-node};
 
-    ghost veiled = { padded };
+    ghost veiled = { hidden_payload };
 
     ghost nodes = { λ veil. nodes_of veil.layout };
 
@@ -59,9 +59,9 @@ impl Veil for PrivatePad {
         }
     }
 
-    ghost own_inverse = { padded-twice };
+    ghost own_inverse = { hidden-twice };
 
-    ghost keeps_length = { padded-long };
+    ghost keeps_length = { hidden-long };
 
-    ghost leaves_nodes = { padded-node };
+    ghost leaves_nodes = { hidden-node };
 }

@@ -6,7 +6,7 @@ use Rattle.hash_tree.specs.HashTrees.{scheme_of}
 use Rattle.stamp_log.specs.declared.causes.LogCause.{LogCause}
 use Rattle.stamp_log.specs.LogState.{value_under}
 use Rattle.stamp_log.specs.StandsOn.{StandsOn}
-use Rattle.secure_memory.specs.PrivatePads.{padded}
+use Rattle.secure_memory.specs.PrivatePads.{hidden_payload}
 use Rattle.secure_memory.specs.MemoryStands.{MemoryStands}
 use Rattle.secure_memory.proofs.EventLists.{GrowsElsewhere, check-elsewhere, tree-stays}
 use Rattle.secure_memory.proofs.memory.SecureMemory.check.Goals as goal
@@ -29,7 +29,7 @@ returns-clause-stands g c =
     (MemoryStands c.args.self.now.layout c.args.self.now.tree (g.L.Lines.lines c.args.self.now.tree.lines) c.check.new.self c.check.new.stamps (g.O.OffChip.trace c.check.new.bus))
     (λ stands. record {
       parts = record { of_tree = c.requires.stands.parts.of_tree; of_veil = c.requires.stands.parts.of_veil; of_log = subst (λ (n : ℕ). n ≡ c.args.self.now.layout.log) (sym c.check.ensures.blocks) c.requires.stands.parts.of_log };
-      tree_stands = tree-stays (scheme_of c.args.self.now.tree.layout (padded c.args.self.now.tree.veil)) (g.L.Lines.lines c.args.self.now.tree.lines) c.args.self.now.tree.root
+      tree_stands = tree-stays (scheme_of c.args.self.now.tree.layout (hidden_payload c.args.self.now.tree.veil)) (g.L.Lines.lines c.args.self.now.tree.lines) c.args.self.now.tree.root
           (g.O.OffChip.trace c.args.self.now.lent.now) (g.O.OffChip.trace c.check.new.bus) grows c.requires.stands.tree_stands;
       log_stands = stands;
       stamps_fit = c.check.ensures.fits;

@@ -1,4 +1,4 @@
-use Rattle.std.proofs.Common.{◌≡◌, ℕ, ◌+◌, ◌<◌, ◌≤◌, List, [], ◌∷◌, ◌++◌, refl, sym, ap, ◌∙◌, subst, arith}
+use Rattle.std.proofs.Common.{◌≡◌, ℕ, ◌+◌, ◌<◌, ◌≤◌, List, [], ◌∷◌, ◌++◌, length, length-append, refl, sym, ap, ◌∙◌, subst, arith}
 use Rattle.std.specs.Prelude.{Option}
 use Rattle.std.specs.List.{All}
 use Rattle.std.specs.FinMap.{empty}
@@ -19,9 +19,9 @@ use Rattle.hash_tree.specs.HashTrees.{scheme_of, state_of}
 use Rattle.hash_tree.specs.TreeSteps.{IsElsewhere}
 use Rattle.stamp_log.specs.LogEvents.{zeros_written}
 use Rattle.stamp_log.specs.Starting.{HasNoLog}
-use Rattle.secure_memory.specs.PrivatePads.{Padding, padded}
+use Rattle.secure_memory.specs.PrivatePads.{Padding, hidden_payload}
 use Rattle.secure_memory.proofs.EventLists.{GrowsElsewhere, tree-stays}
-use Rattle.secure_memory.proofs.EntryEvents.{AllMoveBlocks, below-moves-blocks, log-unused, zeros-elsewhere, enter-elsewhere}
+use Rattle.secure_memory.proofs.EntryEvents.{AllMoveBlocks, below-moves-blocks, log-unused, zeros-elsewhere, zeros-long, enter-elsewhere}
 use Rattle.secure_memory.proofs.memory.SecureMemory.enter.Goals as goal
 
 -- after one event, the trace is that event alone
@@ -83,7 +83,7 @@ returns-clause-stands g c =
         of_veil = ap (λ (veil : Padding). veil.layout) c.enter-digest.ensures.tree.veil ∙ c.requires.parts.of_veil;
         of_log = c.start.ensures.blocks ∙ c.requires.parts.of_log;
       };
-      tree_stands = tree-stays (scheme_of c.enter-digest.new.self.layout (padded c.enter-digest.new.self.veil)) (g.L.Lines.lines c.enter-digest.new.self.lines) c.enter-digest.new.self.root
+      tree_stands = tree-stays (scheme_of c.enter-digest.new.self.layout (hidden_payload c.enter-digest.new.self.veil)) (g.L.Lines.lines c.enter-digest.new.self.lines) c.enter-digest.new.self.root
           (g.O.OffChip.trace c.enter-digest.new.bus) (g.O.OffChip.trace c.start.new.bus) grows c.enter-digest.ensures.stands;
       log_stands = c.start.ensures.stands;
       stamps_fit = c.start.ensures.fits;
@@ -97,9 +97,9 @@ returns-clause-does g c =
       middle = g.O.OffChip.trace c.enter-digest.new.bus;
       last = c.enter-digest.new.stamps;
       entered =
-          subst (λ (t : List Event). Entered tree.layout (scheme_of tree.layout (padded tree.veil)) (state_of empty tree.root t)
+          subst (λ (t : List Event). Entered tree.layout (scheme_of tree.layout (hidden_payload tree.veil)) (state_of empty tree.root t)
           (state_of (g.L.Lines.lines c.enter-digest.new.self.lines) c.enter-digest.new.self.root (g.O.OffChip.trace c.enter-digest.new.bus)) c.enter-digest.result) one
-          (subst (λ (lines : LineMap). Entered tree.layout (scheme_of tree.layout (padded tree.veil)) (state_of lines tree.root (g.O.OffChip.trace c.note.new.self))
+          (subst (λ (lines : LineMap). Entered tree.layout (scheme_of tree.layout (hidden_payload tree.veil)) (state_of lines tree.root (g.O.OffChip.trace c.note.new.self))
           (state_of (g.L.Lines.lines c.enter-digest.new.self.lines) c.enter-digest.new.self.root (g.O.OffChip.trace c.enter-digest.new.bus)) c.enter-digest.result)
           c.requires.lines c.enter-digest.ensures.does);
       started = c.start.ensures.events
@@ -109,3 +109,17 @@ returns-clause-does g c =
 
 pub returns-clause-log : goal.returns-clause-log
 returns-clause-log g c = λ n less. c.start.ensures.contents n (subst (λ (k : ℕ). n < k) (sym c.requires.parts.of_log) less)
+
+pub returns-clause-count : goal.returns-clause-count
+returns-clause-count g c =
+    let first : length (g.O.OffChip.trace c.note.new.self) ≡ 1 = ap (λ (t : List Event). length t) (one_event _ _ c.note.ensures.event.trace c.requires.unused) in
+    let last : length (g.O.OffChip.trace c.start.new.bus) ≡ length (g.O.OffChip.trace c.enter-digest.new.bus) + c.args.self.now.log.blocks =
+    ap (λ (t : List Event). length t) c.start.ensures.events ∙ length-append (g.O.OffChip.trace c.enter-digest.new.bus) (zeros_written c.enter-digest.new.stamps c.args.self.now.log.blocks)
+    ∙ ap (λ (n : ℕ). length (g.O.OffChip.trace c.enter-digest.new.bus) + n) (zeros-long c.enter-digest.new.stamps c.args.self.now.log.blocks) in
+    let same = same_blocks c.args.self.now.tree.layout c.args.self.now.layout c.requires.parts.of_tree in
+    omega (arith, first, last, same, c.enter-digest.ensures.count, c.requires.parts.of_log)
+
+pub returns-clause-room : goal.returns-clause-room
+returns-clause-room g c =
+    let same = same_blocks c.args.self.now.tree.layout c.args.self.now.layout c.requires.parts.of_tree in
+    omega (arith, same, c.note.ensures.event.room, c.enter-digest.ensures.count, c.enter-digest.ensures.total, c.start.ensures.room, c.requires.parts.of_log)
