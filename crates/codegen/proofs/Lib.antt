@@ -1,9 +1,13 @@
 mod CodeExamples
+mod CodeSizes
 pub mod Comes
+mod ConstantSizes
 pub mod Elements
+mod Holding
 mod ImageExamples
 pub mod Imaging
 pub mod Jumping
+mod LabelNumbers
 pub mod Ops
 pub mod Parts
 pub mod Placing
@@ -12,5 +16,7 @@ pub mod Registers
 pub mod Remainders
 pub mod Rules
 pub mod Running
+mod SameCode
 pub mod Sizes
 pub mod Statics
+mod TablePlaces

@@ -2,7 +2,7 @@
 use Rattle.std.proofs.Common.{◌≡◌, ℕ, suc, zero, ◌+◌, ◌*◌, ◌%◌, ◌^◌, ◌<◌, ◌≤◌, Bool, true, false, cond, not, ◌&&◌, List, [], ◌∷◌, ◌++◌, length, take, get_or, Option, Some, None, ◌⊎◌, inl, inr, arith, refl, sym, ap, subst, ◌∙◌, length-append}
 use Rattle.std.proofs.lemmas.List.{take_more, take-take}
 use Rattle.std.proofs.lemmas.List.Sums.{sum_by_push, sum_by-take-le}
-use Rattle.std.proofs.lemmas.Option.{same_Some, slice_get_read, slice_get_within, get_or_from_slice_get}
+use Rattle.std.proofs.lemmas.Option.{same_Some, slice_get_read, slice_get_within, slice_get-get_or, get_or_from_slice_get}
 use Rattle.std.specs.List.{slice_get}
 use Rattle.regions.specs.declared.layout.Layout.{Layout}
 use Rattle.regions.specs.declared.rights.Class.{Class}
@@ -262,3 +262,24 @@ next-of layout ir n c cell sizes all_data inside is =
       below = omega (arith, end-first layout ir n sizes cell.class no_code, end-below layout cell.class, sum_by-take-le (words_for cell.class) ir.cells c);
       more = λ class. class_words-more class ir.cells c cell inside ∙ ap (λ (it : Cell). class_words class (take c ir.cells) + words_for class it) (sym is);
     }
+
+-- each home is a low address
+end-low : (layout : Layout) (class : Class) → end_of layout class < 2 ^ 31
+end-low layout Open = omega arith
+end-low layout Verified = omega (arith, layout.data_fits)
+end-low layout Private = omega (arith, layout.data_fits)
+end-low layout Constant = omega (arith, layout.data_fits)
+end-low layout Code = omega (arith, layout.data_fits)
+end-low layout Logged = omega (arith, layout.log_fits)
+
+low-cell : (layout : Layout) (ir : Ir) (n c : ℕ) (cell : Cell) → HasSizes layout ir n → all_hold is_data ir.cells ≡ true → slice_get ir.cells c ≡ Some cell →
+    home_address layout ir c < 2 ^ 31
+low-cell layout ir n c cell sizes all_data there =
+    let no_code : is_code (class_of ir c) ≡ false =
+        ap (λ (found : Option Cell). is_code (class_in found)) there ∙ not-true (is_code cell.class) (hold-at is_data ir.cells c cell all_data there) in
+    omega (arith, end-first layout ir n sizes (class_of ir c) no_code, end-low layout (class_of ir c), sum_by-take-le (words_for (class_of ir c)) ir.cells c)
+
+pub home-low : (layout : Layout) (ir : Ir) (n c : ℕ) → HasSizes layout ir n → all_hold is_data ir.cells ≡ true → c < length ir.cells → home_address layout ir c < 2 ^ 31
+home-low layout ir n c sizes all_data inside =
+    low-cell layout ir n c (get_or ir.cells c (record { class = Open; words = 0; first = [] })) sizes all_data
+    (slice_get-get_or ir.cells c (record { class = Open; words = 0; first = [] }) inside)
