@@ -1,16 +1,19 @@
 //! Flat code made into an image.
-ghost use Rattle.std.specs.Prelude.{◌≡◌, ◌<◌, ◌≤◌, ◌+◌, ◌-◌, ◌^◌, ◌++◌, ℕ, true, length, map, nat_lt, replicate, slice_index, Some, None, Err, IfOk, IsOkUnless, OnOk};
+ghost use Rattle.std.specs.Prelude.{◌≡◌, ◌<◌, ◌≤◌, ◌+◌, ◌-◌, ◌^◌, ◌++◌, ℕ, Bool, true, length, map, nat_lt, replicate, slice_index, Some, None, Err, IfOk, IsOkUnless, OnOk};
 ghost use Rattle.std.specs.List.{AllByRecursion};
 ghost use Rattle.aegis_num.specs.declared.limits.TheConstants.{MAX_PARAMETERS};
 ghost use Rattle.orbis_word.specs.Reading.{instruction_in};
 ghost use Rattle.orbis_word.specs.declared.Instr.TheVariants.{Nop as Nothing};
-ghost use Rattle.ir_code.specs.Lawful.{all_hold, named_by, HasForm};
+ghost use Rattle.ir_code.specs.Lawful.{all_hold, named_by, HasForm, IsLawful};
 ghost use Rattle.ir_code.specs.OpTable.{slots_of};
 ghost use Rattle.region_plan.specs.declared.error.PlanError.{PlanError as SomeFault};
 ghost use Rattle.region_plan.specs.PlanFaults.{plan_fault};
-ghost use Rattle.image_file.specs.ImageTable.{HoldsWords};
+ghost use Rattle.image_file.specs.ImageTable.{static_bytes, HoldsWords};
+ghost use Rattle.orbis_core.specs.Soundness.{IsSound};
+ghost use Rattle.regions.specs.LooseClasses.{shared_and_logged_loose};
+ghost use Rattle.regions.specs.declared.Class.{Class as SomeClass};
 ghost use Rattle.codegen.specs.ImageCode.{code_blocks, code_from, code_size};
-ghost use Rattle.codegen.specs.EmittedImage.{IsImageOf};
+ghost use Rattle.codegen.specs.EmittedImage.{HasFirstWords, IsImageOf, MeansCode};
 ghost use Rattle.codegen.specs.EmitFaults.{emit_error};
 ghost use Rattle.codegen.specs.Numbers.{sites_in, AreLow};
 
@@ -93,6 +96,13 @@ pub fn emit(alloc: Global, ir: &Ir) -> Result<Image, EmitError>
     requires { HasForm ir.now }
     ensures image { IfOk result (IsImageOf ir.now) }
     ensures words { IfOk result HoldsWords }
+
+    // Where the code is lawful it does what the code means, and it is sound.
+    ensures meaning { IfOk result (λ image. (loose : SomeClass → Bool) → IsLawful loose ir.now
+        → HasFirstWords ir.now.cells → MeansCode loose ir.now image) }
+    ensures sound { IfOk result (λ image. IsLawful shared_and_logged_loose ir.now
+        → HasFirstWords ir.now.cells
+        → IsSound image.layout (static_bytes image) image.entry) }
 
     // A limit that is passed is told. Else only memory can be wanting.
     ensures full { (fault : SomeFault) → plan_fault ir.now.cells (code_blocks ir.now) ≡ Some fault

@@ -9,6 +9,8 @@ use Rattle.codegen.specs.ImageCode.{code_blocks, code_size, constant_words, entr
 use Rattle.codegen.specs.Numbers.{AreLow, label_number, sites_in}
 use Rattle.codegen.proofs.CodeSizes.{offset_of-below, offset_of-take}
 use Rattle.codegen.proofs.ConstantSizes.{length-constant_bytes}
+use Rattle.codegen.proofs.Imaging.{images-mean-code}
+use Rattle.codegen.proofs.Plain.{images-are-sound}
 use Rattle.codegen.proofs.TablePlaces.{are-low, length-words, placed-words}
 use Rattle.codegen.proofs.image.emit.Goals as goal
 use Rattle.codegen.proofs.image.emit.Goals.{After-as_slice, After-code_size-entry}
@@ -71,3 +73,11 @@ returns-clause-image c =
       code = placed-words c.in_ok-placement.placement.layout c.args.ir.now c.as_slice.result.now c.in_ok-labels.labels c.as_slice-ops.result.now c.code_size-size.result
           c.in_ok-code.code c.requires (has at) (known at) c.as_slice-ops.ensures (sized at) (sizes at).code c.in_ok-code.ensures.code;
     }
+
+pub returns-clause-meaning : goal.returns-clause-meaning
+returns-clause-meaning c = λ loose lawful first.
+    images-mean-code loose c.args.ir.now _ lawful first (returns-clause-image c) (record { constants = c.in_ok-constants.ensures.bytes; code = c.in_ok-code.ensures.words })
+
+pub returns-clause-sound : goal.returns-clause-sound
+returns-clause-sound c = λ lawful first.
+    images-are-sound c.args.ir.now _ lawful first (returns-clause-image c) (record { constants = c.in_ok-constants.ensures.bytes; code = c.in_ok-code.ensures.words })
