@@ -1,0 +1,7 @@
+mod Counting
+mod LayoutLists
+mod Lists
+mod Promises
+mod Views
+mod Whole
+mod Worked
