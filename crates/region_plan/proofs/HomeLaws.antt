@@ -276,7 +276,7 @@ low-cell : (layout : Layout) (ir : Ir) (n c : ℕ) (cell : Cell) → HasSizes la
     home_address layout ir c < 2 ^ 31
 low-cell layout ir n c cell sizes all_data there =
     let no_code : is_code (class_of ir c) ≡ false =
-        ap (λ (found : Option Cell). is_code (class_in found)) there ∙ not-true (is_code cell.class) (hold-at is_data ir.cells c cell all_data there) in
+    ap (λ (found : Option Cell). is_code (class_in found)) there ∙ not-true (is_code cell.class) (hold-at is_data ir.cells c cell all_data there) in
     omega (arith, end-first layout ir n sizes (class_of ir c) no_code, end-low layout (class_of ir c), sum_by-take-le (words_for (class_of ir c)) ir.cells c)
 
 pub home-low : (layout : Layout) (ir : Ir) (n c : ℕ) → HasSizes layout ir n → all_hold is_data ir.cells ≡ true → c < length ir.cells → home_address layout ir c < 2 ^ 31
