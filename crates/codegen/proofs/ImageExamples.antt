@@ -25,7 +25,7 @@ use Rattle.ir_code.specs.FlatStates as flat
 use Rattle.ir_code.proofs.Worked.{straight, looping, cell, cells, having}
 use Rattle.image_file.specs.declared.Image.{Image}
 use Rattle.region_plan.specs.Homes.{home_address}
-use Rattle.codegen.specs.ImageCode.{size_of, offset_of, offset_at, sites_of, code_of, code_blocks, entry_of, constant_words, constant_bytes}
+use Rattle.codegen.specs.ImageCode.{size_of, offset_of, offset_found, sites_of, code_of, code_blocks, entry_of, constant_words, constant_bytes}
 use Rattle.codegen.specs.EmittedImage.{IsImageOf, elements_at, elements_from, address_name, machine_end, HasFirstWords, MeansCode}
 
 -- ---- numbers of instructions
@@ -34,7 +34,7 @@ sizes : (size_of (op.Label 3) ≡ 0) × (size_of (op.Jump 3) ≡ 1) × (size_of 
 sizes = (refl, refl, refl, refl)
 
 -- the loop's label stands at the fifth instruction, and a label that is not there at the first
-offsets : (offset_of looping.ops 0 ≡ 0) × (offset_of looping.ops 1 ≡ 4) × (offset_of looping.ops 2 ≡ 4) × (offset_of looping.ops 3 ≡ 13) × (offset_of looping.ops 99 ≡ 40) × (offset_at looping.ops None ≡ 0)
+offsets : (offset_of looping.ops 0 ≡ 0) × (offset_of looping.ops 1 ≡ 4) × (offset_of looping.ops 2 ≡ 4) × (offset_of looping.ops 3 ≡ 13) × (offset_of looping.ops 99 ≡ 40) × (offset_found looping.ops None ≡ 0)
     × ((sites_of (λ c. 0) looping).label 9 ≡ 4) × ((sites_of (λ c. 0) looping).label 8 ≡ 0)
 offsets = (refl, refl, refl, refl, refl, refl, refl, refl)
 

@@ -7,7 +7,7 @@ use Rattle.ir_code.specs.declared.Op.{Op}
 use Rattle.ir_code.specs.declared.Op.TheVariants as op
 use Rattle.ir_code.specs.declared.Ir.{Ir}
 use Rattle.ir_code.specs.FlatStates.{is_label, label_from, label_place}
-use Rattle.codegen.specs.ImageCode.{size_of, offset_of, offset_at, code_size}
+use Rattle.codegen.specs.ImageCode.{size_of, offset_of, offset_found, code_size}
 use Rattle.codegen.specs.Numbers.{label_number}
 use Rattle.codegen.proofs.CodeSizes.{code_size-more}
 
@@ -31,7 +31,7 @@ numbers-agree n k [] l = refl
 numbers-agree n k (o ∷ ops) l =
     agree-cond n k o ops (is_label l o) (label_from (k + 1) ops l) (label_number (n + size_of o) ops l) (numbers-agree (n + size_of o) (k + 1) ops l)
 
-at-number : (ops : List Op) (place number : Option ℕ) → NumbersAgree 0 0 ops place number → unwrap_or number 0 ≡ offset_at ops place
+at-number : (ops : List Op) (place number : Option ℕ) → NumbersAgree 0 0 ops place number → unwrap_or number 0 ≡ offset_found ops place
 at-number ops None number h = ap (λ (it : Option ℕ). unwrap_or it 0) h
 at-number ops (Some place) number h =
     let same : 0 + offset_of ops h.0 ≡ offset_of ops h.0 = omega arith in
@@ -39,7 +39,7 @@ at-number ops (Some place) number h =
     ap (λ (it : Option ℕ). unwrap_or it 0) h.2 ∙ same ∙ ap (offset_of ops) there
 
 -- the number at a label is that of the instruction at its place
-pub number-is_offset : (ir : Ir) (l : ℕ) → unwrap_or (label_number 0 ir.ops l) 0 ≡ offset_at ir.ops (label_place ir l)
+pub number-is_offset : (ir : Ir) (l : ℕ) → unwrap_or (label_number 0 ir.ops l) 0 ≡ offset_found ir.ops (label_place ir l)
 number-is_offset ir l = at-number ir.ops (label_place ir l) (label_number 0 ir.ops l) (numbers-agree 0 0 ir.ops l)
 
 cond-le : (n m : ℕ) (b : Bool) (number : Option ℕ) → n ≤ m → unwrap_or number 0 ≤ m → unwrap_or (cond b (Some n) number) 0 ≤ m

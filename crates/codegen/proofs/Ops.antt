@@ -27,8 +27,8 @@ use Rattle.ir_code.specs.OpTable.{weight_of}
 use Rattle.ir_code.specs.FlatStates as flat
 use Rattle.ir_code.specs.FlatStates.{Held, Word, Link, FlatState, FlatEnd, Step, Later, pick, stuck, with_traffic, words_of, class_of, mode_of, is_shared, changed, filled, fetched, label_place, element_at}
 use Rattle.ir_code.specs.FlatMeaning.{effect as effect_on, reading, written, writing, put, jumping, going, with_given, with_link, keeping_link}
-use Rattle.codegen.specs.OpInstructions.{upper, lower, fetch, keep, flagged, distance, on_one, on_two, instructions_of}
-use Rattle.codegen.specs.ImageCode.{offset_of, offset_at}
+use Rattle.codegen.specs.OpInstructions.{upper, lower, read_into, keep, flagged, distance, on_one, on_two, instructions_of}
+use Rattle.codegen.specs.ImageCode.{offset_of, offset_found}
 use Rattle.codegen.proofs.Registers.{Registers, listed, Name, R3, R4, R5, R6, R7, R8, R9, R11, R12, R13, R14, R15, number_of, set}
 use Rattle.codegen.proofs.Comes.{World, Fits, HasCode, first-stands, rest-stands, sites, core_at, standing, word_held, Tied, Handed, Has, Comes, steps, stays, address_of}
 use Rattle.codegen.proofs.Rules.{to-next, went, among, writes, compares, proceeds, jumps, links, reads, read-step, writes-cell, write-step, tied-new, lt-from, exits, releases, inputs, checks, suspends, turns-private, turns-public}
@@ -352,7 +352,7 @@ module _ (w : World) (h : Fits w) (f : FlatState) where
       let g : FlatState = fetched (op.Arg slot from) f in
       let s : IsSlot w slot = is-slot w slot few in
       let next : ℕ → Later = λ word. pick (nat_lt slot MAX_PARAMETERS) (λ y. Goes (record y { slots = filled y.slots slot word })) stuck in
-      fetches w h g from s.name next x.tied x.small (subst (λ (n : ℕ). HasCode w (address_of w f.place) (fetch n (w.home from) []) (address_of w (f.place + 1))) (sym s.number) x.code)
+      fetches w h g from s.name next x.tied x.small (subst (λ (n : ℕ). HasCode w (address_of w f.place) (read_into n (w.home from) []) (address_of w (f.place + 1))) (sym s.number) x.code)
       (λ word t bound code. onto (ap (λ (b : Bool). pick b (λ (y : FlatState). Goes (record y { slots = filled y.slots slot word })) stuck (with_traffic t g)) (sym few))
       (lands w (record (with_traffic t g) { slots = filled f.slots slot word }) code refl x.tied (s.fills f.slots f.link f.result r _ word x.handed)))
 
@@ -407,7 +407,7 @@ module _ (w : World) (h : Fits w) (f : FlatState) where
           let near_from : address_of w f.place < 2 ^ 31 = h.small f.place in
           let n : ℕ = offset_of w.ir.ops f.place in
           let target : displaced (address_of w f.place) (distance n ((sites w).label l) *ℤ pos 4) ≡ address_of w place =
-          ap (λ (y : Option ℕ). displaced (address_of w f.place) (distance n (offset_at w.ir.ops y) *ℤ pos 4)) is
+          ap (λ (y : Option ℕ). displaced (address_of w f.place) (distance n (offset_found w.ir.ops y) *ℤ pos 4)) is
           ∙ reached (start_of w.layout Code) n (offset_of w.ir.ops place) near_from to_small in
           links w h (fetched (op.Call l) f) (address_of w place) x.tied x.code (ap (λ (y : ℕ). effect.Link y) target)
           (λ code. let next : address_of w f.place + 4 ≡ address_of w (f.place + 1) = code.all in

@@ -21,8 +21,8 @@ use Rattle.orbis_core.specs.Ideal.{Ideal, IdealEnd}
 use Rattle.ir_code.specs.FlatStates as flat
 use Rattle.ir_code.specs.FlatStates.{Held, Word, FlatState, FlatEnd, Step, Later, pick, with_traffic, words_of, class_of, changed, label_place}
 use Rattle.ir_code.specs.FlatMeaning.{reading, written, writing, put, jumping, going, with_given}
-use Rattle.codegen.specs.OpInstructions.{upper, lower, fetch, keep, number, indexed, flagged, distance, trapped}
-use Rattle.codegen.specs.ImageCode.{offset_at, offset_of}
+use Rattle.codegen.specs.OpInstructions.{upper, lower, read_into, keep, number, indexed, flagged, distance, trapped}
+use Rattle.codegen.specs.ImageCode.{offset_found, offset_of}
 use Rattle.codegen.proofs.Registers.{Registers, listed, Name, R3, R12, R13, R14, number_of, set}
 use Rattle.codegen.proofs.Comes.{World, Fits, HasCode, first-stands, rest-stands, sites, core_at, standing, Tied, Handed, Comes, ComesTo, Ends, stays, address_of}
 use Rattle.codegen.proofs.Rules.{below-code, writes, proceeds, jumps, reads, writes-cell, index-traps, divide-traps}
@@ -85,7 +85,7 @@ fewer w lo hi s next h = record { comes = go next h.comes }
 
 module _ (w : World) (h : Fits w) (f : FlatState) {lo : Bool} {hi pc to : ℕ} {flag : Bool} {r : Registers} {m : ℕ → ℕ} {rest : List Instr} where
   -- the word of a cell comes into a register
-  pub fetches : (c : ℕ) (d : Name) (next : ℕ → Later) → Tied w f.cells m → ((a : ℕ) → m a < 2 ^ 32) → HasCode w pc (fetch (number_of d) (w.home c) rest) to →
+  pub fetches : (c : ℕ) (d : Name) (next : ℕ → Later) → Tied w f.cells m → ((a : ℕ) → m a < 2 ^ 32) → HasCode w pc (read_into (number_of d) (w.home c) rest) to →
       ((word : ℕ) (t : Traffic Element) → word < 2 ^ 32 → HasCode w (pc + 4 + 4) rest to →
       Comes w false hi (standing w (pc + 4 + 4) flag (set d word (set R12 (upper (w.home c) * 2 ^ 16) r)) (with_traffic t f) m) (next word (with_traffic t f))) →
       Comes w lo (suc (suc hi)) (standing w pc flag r f m) (reading w.loose w.ir c 0 next f)
@@ -187,7 +187,7 @@ labelled w h f {lo} {hi} {pc} {to} {flag} {r} {m} {i} {rest} l n tied code e at 
         let to_small : address_of w place < 2 ^ 31 = h.small place in
         let near_from : pc < 2 ^ 31 = near w.layout pc Code (first-stands w code).code in
         let target : displaced pc (distance n ((sites w).label l) *ℤ pos 4) ≡ address_of w place =
-        ap (λ (x : Option ℕ). displaced pc (distance n (offset_at w.ir.ops x) *ℤ pos 4)) is ∙ ap (λ (x : ℕ). displaced x (distance n (offset_of w.ir.ops place) *ℤ pos 4)) at
+        ap (λ (x : Option ℕ). displaced pc (distance n (offset_found w.ir.ops x) *ℤ pos 4)) is ∙ ap (λ (x : ℕ). displaced x (distance n (offset_of w.ir.ops place) *ℤ pos 4)) at
         ∙ reached (start_of w.layout Code) n (offset_of w.ir.ops place) (omega (arith, at, near_from)) to_small in
         jumps w h f (address_of w place) tied code (e ∙ ap (λ (x : ℕ). effect.Jump x) target)
         (stays w hi (standing w (address_of w place) flag r f m) (record f { place = place; jumps = f.jumps + 1 })

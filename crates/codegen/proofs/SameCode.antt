@@ -11,7 +11,7 @@ use Rattle.ir_code.specs.declared.Ir.{Ir}
 use Rattle.ir_code.specs.FlatStates.{words_of, words_in}
 use Rattle.ir_code.specs.Lawful.{HasForm, all_hold, named_by, is_scalar, is_there}
 use Rattle.ir_code.specs.OpTable.{targets, sources, loaded, stored, link_cells}
-use Rattle.codegen.specs.OpInstructions.{Sites, instructions_of, fetch, keep, number, indexed, lower, trapped, on_one, on_two, distance}
+use Rattle.codegen.specs.OpInstructions.{Sites, instructions_of, read_into, keep, number, indexed, lower, trapped, on_one, on_two, distance}
 use Rattle.codegen.specs.ImageCode.{size_of, code_from}
 use Rattle.codegen.proofs.Holding.{first-of, second-of, hold-back}
 
@@ -69,39 +69,39 @@ module _ (ir : Ir) (at bt : Sites) (homes : (c : ℕ) → c < length ir.cells �
   same-op : (n : ℕ) (o : Op) (ops : List Op) → NamesCells ir (o ∷ ops) → instructions_of at n o ≡ instructions_of bt n o
   same-op n (op.Const to value) ops names = ap (λ (h : ℕ). number 13 value (keep h 13 [])) (front to _ names.written_fit)
   same-op n (op.Copy to from) ops names =
-      ap (λ (h : ℕ). fetch 13 h (keep (at.home to) 13 [])) (front from _ names.read_fit)
-      ∙ ap (λ (h : ℕ). fetch 13 (bt.home from) (keep h 13 [])) (front to _ names.written_fit)
+      ap (λ (h : ℕ). read_into 13 h (keep (at.home to) 13 [])) (front from _ names.read_fit)
+      ∙ ap (λ (h : ℕ). read_into 13 (bt.home from) (keep h 13 [])) (front to _ names.written_fit)
   same-op n (op.Unary operator to a) ops names =
-      ap (λ (h : ℕ). fetch 13 h (on_one operator (keep (at.home to) 13 []))) (front a _ names.read_fit)
-      ∙ ap (λ (h : ℕ). fetch 13 (bt.home a) (on_one operator (keep h 13 []))) (front to _ names.written_fit)
+      ap (λ (h : ℕ). read_into 13 h (on_one operator (keep (at.home to) 13 []))) (front a _ names.read_fit)
+      ∙ ap (λ (h : ℕ). read_into 13 (bt.home a) (on_one operator (keep h 13 []))) (front to _ names.written_fit)
   same-op n (op.Binary operator to a b) ops names =
-      ap (λ (h : ℕ). fetch 13 h (fetch 14 (at.home b) (on_two operator (keep (at.home to) 13 [])))) (front a (b ∷ named_by sources ops) names.read_fit)
-      ∙ ap (λ (h : ℕ). fetch 13 (bt.home a) (fetch 14 h (on_two operator (keep (at.home to) 13 [])))) (next a b _ names.read_fit)
-      ∙ ap (λ (h : ℕ). fetch 13 (bt.home a) (fetch 14 (bt.home b) (on_two operator (keep h 13 [])))) (front to _ names.written_fit)
-  same-op n (op.Test a length token) ops names = ap (λ (h : ℕ). fetch 13 h (number 14 length (Sfltu 13 14 ∷ trapped 9 token))) (front a _ names.read_fit)
-  same-op n (op.NonZero a token) ops names = ap (λ (h : ℕ). fetch 13 h (Sfne 13 0 ∷ trapped 10 token)) (front a _ names.read_fit)
+      ap (λ (h : ℕ). read_into 13 h (read_into 14 (at.home b) (on_two operator (keep (at.home to) 13 [])))) (front a (b ∷ named_by sources ops) names.read_fit)
+      ∙ ap (λ (h : ℕ). read_into 13 (bt.home a) (read_into 14 h (on_two operator (keep (at.home to) 13 [])))) (next a b _ names.read_fit)
+      ∙ ap (λ (h : ℕ). read_into 13 (bt.home a) (read_into 14 (bt.home b) (on_two operator (keep h 13 [])))) (front to _ names.written_fit)
+  same-op n (op.Test a length token) ops names = ap (λ (h : ℕ). read_into 13 h (number 14 length (Sfltu 13 14 ∷ trapped 9 token))) (front a _ names.read_fit)
+  same-op n (op.NonZero a token) ops names = ap (λ (h : ℕ). read_into 13 h (Sfne 13 0 ∷ trapped 10 token)) (front a _ names.read_fit)
   same-op n (op.Load to array_cell index) ops names =
-      ap (λ (h : ℕ). fetch 13 h (indexed (at.home array_cell) (Lwz 13 (lower (at.home array_cell)) 12 ∷ keep (at.home to) 13 []))) (front index _ names.read_fit)
-      ∙ ap (λ (h : ℕ). fetch 13 (bt.home index) (indexed h (Lwz 13 (lower h) 12 ∷ keep (at.home to) 13 []))) (array array_cell _ names.loaded_there)
-      ∙ ap (λ (h : ℕ). fetch 13 (bt.home index) (indexed (bt.home array_cell) (Lwz 13 (lower (bt.home array_cell)) 12 ∷ keep h 13 []))) (front to _ names.written_fit)
+      ap (λ (h : ℕ). read_into 13 h (indexed (at.home array_cell) (Lwz 13 (lower (at.home array_cell)) 12 ∷ keep (at.home to) 13 []))) (front index _ names.read_fit)
+      ∙ ap (λ (h : ℕ). read_into 13 (bt.home index) (indexed h (Lwz 13 (lower h) 12 ∷ keep (at.home to) 13 []))) (array array_cell _ names.loaded_there)
+      ∙ ap (λ (h : ℕ). read_into 13 (bt.home index) (indexed (bt.home array_cell) (Lwz 13 (lower (bt.home array_cell)) 12 ∷ keep h 13 []))) (front to _ names.written_fit)
   same-op n (op.Store array_cell index from) ops names =
-      ap (λ (h : ℕ). fetch 13 h (fetch 14 (at.home from) (indexed (at.home array_cell) (Sw (lower (at.home array_cell)) 12 14 ∷ [])))) (front index (from ∷ named_by sources ops) names.read_fit)
-      ∙ ap (λ (h : ℕ). fetch 13 (bt.home index) (fetch 14 h (indexed (at.home array_cell) (Sw (lower (at.home array_cell)) 12 14 ∷ [])))) (next index from _ names.read_fit)
-      ∙ ap (λ (h : ℕ). fetch 13 (bt.home index) (fetch 14 (bt.home from) (indexed h (Sw (lower h) 12 14 ∷ [])))) (array array_cell _ names.stored_there)
+      ap (λ (h : ℕ). read_into 13 h (read_into 14 (at.home from) (indexed (at.home array_cell) (Sw (lower (at.home array_cell)) 12 14 ∷ [])))) (front index (from ∷ named_by sources ops) names.read_fit)
+      ∙ ap (λ (h : ℕ). read_into 13 (bt.home index) (read_into 14 h (indexed (at.home array_cell) (Sw (lower (at.home array_cell)) 12 14 ∷ [])))) (next index from _ names.read_fit)
+      ∙ ap (λ (h : ℕ). read_into 13 (bt.home index) (read_into 14 (bt.home from) (indexed h (Sw (lower h) 12 14 ∷ [])))) (array array_cell _ names.stored_there)
   same-op n (op.Label l) ops names = refl
   same-op n (op.Jump l) ops names = ap (λ (m : ℕ). J (distance n m) ∷ []) (labels l)
   same-op n (op.JumpZero a l) ops names =
-      ap (λ (h : ℕ). fetch 13 h (Sfeq 13 0 ∷ Bf (distance (n + 3) (at.label l)) ∷ [])) (front a _ names.read_fit)
-      ∙ ap (λ (m : ℕ). fetch 13 (bt.home a) (Sfeq 13 0 ∷ Bf (distance (n + 3) m) ∷ [])) (labels l)
-  same-op n (op.Arg slot from) ops names = ap (λ (h : ℕ). fetch (3 + slot) h []) (front from _ names.read_fit)
+      ap (λ (h : ℕ). read_into 13 h (Sfeq 13 0 ∷ Bf (distance (n + 3) (at.label l)) ∷ [])) (front a _ names.read_fit)
+      ∙ ap (λ (m : ℕ). read_into 13 (bt.home a) (Sfeq 13 0 ∷ Bf (distance (n + 3) m) ∷ [])) (labels l)
+  same-op n (op.Arg slot from) ops names = ap (λ (h : ℕ). read_into (3 + slot) h []) (front from _ names.read_fit)
   same-op n (op.Param to slot) ops names = ap (λ (h : ℕ). keep h (3 + slot) []) (front to _ names.written_fit)
   same-op n (op.Call l) ops names = ap (λ (m : ℕ). Jal (distance n m) ∷ []) (labels l)
   same-op n (op.SaveLink cell) ops names = ap (λ (h : ℕ). keep h 9 []) (front cell _ names.links_fit)
-  same-op n (op.Return cell) ops names = ap (λ (h : ℕ). fetch 9 h (Jr 9 ∷ [])) (front cell _ names.links_fit)
-  same-op n (op.SetResult from) ops names = ap (λ (h : ℕ). fetch 11 h []) (front from _ names.read_fit)
+  same-op n (op.Return cell) ops names = ap (λ (h : ℕ). read_into 9 h (Jr 9 ∷ [])) (front cell _ names.links_fit)
+  same-op n (op.SetResult from) ops names = ap (λ (h : ℕ). read_into 11 h []) (front from _ names.read_fit)
   same-op n (op.Result to) ops names = ap (λ (h : ℕ). keep h 11 []) (front to _ names.written_fit)
   same-op n (op.Input to) ops names = ap (λ (h : ℕ). Cust1 7 ∷ keep h 11 []) (front to _ names.written_fit)
-  same-op n (op.Release a) ops names = ap (λ (h : ℕ). fetch 3 h (Cust1 6 ∷ [])) (front a _ names.read_fit)
+  same-op n (op.Release a) ops names = ap (λ (h : ℕ). read_into 3 h (Cust1 6 ∷ [])) (front a _ names.read_fit)
   same-op n op.Check ops names = refl
   same-op n op.Suspend ops names = refl
   same-op n (op.SetMode true) ops names = refl

@@ -28,13 +28,13 @@ code_size [] = 0
 code_size (o ∷ ops) = size_of o + code_size ops
 
 -- the number of the instruction at a place, if there is one
-abbrev pub offset_at : List Op → Option ℕ → ℕ
-offset_at ops None = 0
-offset_at ops (Some place) = offset_of ops place
+abbrev pub offset_found : List Op → Option ℕ → ℕ
+offset_found ops None = 0
+offset_found ops (Some place) = offset_of ops place
 
 -- where things are, when cells are at home so
 abbrev pub sites_of : (ℕ → ℕ) → Ir → Sites
-sites_of home ir = record { home = home; label = λ l. offset_at ir.ops (label_place ir l) }
+sites_of home ir = record { home = home; label = λ l. offset_found ir.ops (label_place ir l) }
 
 -- ---- the code
 

@@ -26,8 +26,8 @@ abbrev pub lower : ℕ → ℤ
 lower address = cast_signed w16 (address % 2 ^ 16)
 
 -- a register gets the word at an address
-abbrev pub fetch : ℕ → ℕ → List Instr → List Instr
-fetch d address rest = Movhi 12 (upper address) ∷ Lwz d (lower address) 12 ∷ rest
+abbrev pub read_into : ℕ → ℕ → List Instr → List Instr
+read_into d address rest = Movhi 12 (upper address) ∷ Lwz d (lower address) 12 ∷ rest
 
 -- the word of a register is put at an address
 abbrev pub keep : ℕ → ℕ → List Instr → List Instr
@@ -89,27 +89,27 @@ on_two on.GeU rest = Sfgeu 13 14 ∷ flagged rest
 
 abbrev pub instructions_of : Sites → ℕ → Op → List Instr
 instructions_of at n (op.Const to value) = number 13 value (keep (at.home to) 13 [])
-instructions_of at n (op.Copy to from) = fetch 13 (at.home from) (keep (at.home to) 13 [])
-instructions_of at n (op.Unary operator to a) = fetch 13 (at.home a) (on_one operator (keep (at.home to) 13 []))
-instructions_of at n (op.Binary operator to a b) = fetch 13 (at.home a) (fetch 14 (at.home b) (on_two operator (keep (at.home to) 13 [])))
-instructions_of at n (op.Test a length token) = fetch 13 (at.home a) (number 14 length (Sfltu 13 14 ∷ trapped 9 token))
-instructions_of at n (op.NonZero a token) = fetch 13 (at.home a) (Sfne 13 0 ∷ trapped 10 token)
+instructions_of at n (op.Copy to from) = read_into 13 (at.home from) (keep (at.home to) 13 [])
+instructions_of at n (op.Unary operator to a) = read_into 13 (at.home a) (on_one operator (keep (at.home to) 13 []))
+instructions_of at n (op.Binary operator to a b) = read_into 13 (at.home a) (read_into 14 (at.home b) (on_two operator (keep (at.home to) 13 [])))
+instructions_of at n (op.Test a length token) = read_into 13 (at.home a) (number 14 length (Sfltu 13 14 ∷ trapped 9 token))
+instructions_of at n (op.NonZero a token) = read_into 13 (at.home a) (Sfne 13 0 ∷ trapped 10 token)
 instructions_of at n (op.Load to array index) =
-    fetch 13 (at.home index) (indexed (at.home array) (Lwz 13 (lower (at.home array)) 12 ∷ keep (at.home to) 13 []))
+    read_into 13 (at.home index) (indexed (at.home array) (Lwz 13 (lower (at.home array)) 12 ∷ keep (at.home to) 13 []))
 instructions_of at n (op.Store array index from) =
-    fetch 13 (at.home index) (fetch 14 (at.home from) (indexed (at.home array) (Sw (lower (at.home array)) 12 14 ∷ [])))
+    read_into 13 (at.home index) (read_into 14 (at.home from) (indexed (at.home array) (Sw (lower (at.home array)) 12 14 ∷ [])))
 instructions_of at n (op.Label l) = []
 instructions_of at n (op.Jump l) = J (distance n (at.label l)) ∷ []
-instructions_of at n (op.JumpZero a l) = fetch 13 (at.home a) (Sfeq 13 0 ∷ Bf (distance (n + 3) (at.label l)) ∷ [])
-instructions_of at n (op.Arg slot from) = fetch (3 + slot) (at.home from) []
+instructions_of at n (op.JumpZero a l) = read_into 13 (at.home a) (Sfeq 13 0 ∷ Bf (distance (n + 3) (at.label l)) ∷ [])
+instructions_of at n (op.Arg slot from) = read_into (3 + slot) (at.home from) []
 instructions_of at n (op.Param to slot) = keep (at.home to) (3 + slot) []
 instructions_of at n (op.Call l) = Jal (distance n (at.label l)) ∷ []
 instructions_of at n (op.SaveLink cell) = keep (at.home cell) 9 []
-instructions_of at n (op.Return cell) = fetch 9 (at.home cell) (Jr 9 ∷ [])
-instructions_of at n (op.SetResult from) = fetch 11 (at.home from) []
+instructions_of at n (op.Return cell) = read_into 9 (at.home cell) (Jr 9 ∷ [])
+instructions_of at n (op.SetResult from) = read_into 11 (at.home from) []
 instructions_of at n (op.Result to) = keep (at.home to) 11 []
 instructions_of at n (op.Input to) = Cust1 7 ∷ keep (at.home to) 11 []
-instructions_of at n (op.Release a) = fetch 3 (at.home a) (Cust1 6 ∷ [])
+instructions_of at n (op.Release a) = read_into 3 (at.home a) (Cust1 6 ∷ [])
 instructions_of at n op.Check = Cust1 8 ∷ []
 instructions_of at n op.Suspend = Cust1 2 ∷ []
 instructions_of at n (op.SetMode true) = Cust1 4 ∷ []

@@ -2,7 +2,7 @@
 ghost use Rattle.std.specs.Prelude.{◌≡◌, ◌<◌, ◌≤◌, ◌^◌, ◌++◌, [], ◌∷◌, map, Some, OnOk};
 ghost use Rattle.orbis_word.specs.Reading.{instruction_in};
 ghost use Rattle.orbis_word.specs.Table.{IsInRange};
-ghost use Rattle.codegen.specs.OpInstructions.{fetch, flagged, indexed, keep, lower, number, trapped, upper};
+ghost use Rattle.codegen.specs.OpInstructions.{read_into, flagged, indexed, keep, lower, number, trapped, upper};
 
 use aegis_num::OutOfMemory;
 use orbis_word::{Instr, encode};
@@ -70,7 +70,7 @@ impl Code {
     pub fn fetch(&mut self, d: u8, address: u32) -> Result<(), OutOfMemory>
         requires register { d < 32 }
         requires low { address < 2 ^ 31 }
-        ensures { OnOk result (self.new ≡ self.old ++ map Some (fetch d address [])) }
+        ensures { OnOk result (self.new ≡ self.old ++ map Some (read_into d address [])) }
     {
         let k = upper(address);
         self.push(Instr::Movhi { d: 12, k })?;
