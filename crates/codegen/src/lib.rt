@@ -14,3 +14,6 @@ mod tables;
 pub use error::EmitError;
 pub use image::emit;
 pub use laws::{images_are_sound, images_mean_code, sizes_fit_weights};
+
+#[cfg(test)]
+mod tests;
