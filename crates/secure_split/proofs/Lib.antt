@@ -1,3 +1,4 @@
+mod Checker
 mod Counting
 mod LayoutLists
 mod Lists
