@@ -1,5 +1,5 @@
 -- Several events at once: those of the log keep a tree standing, and those of the tree keep a log standing.
-use Rattle.std.proofs.Common.{◌≡◌, ◌≢◌, ℕ, suc, List, [], ◌∷◌, ◌++◌, refl, sym, subst, append_assoc}
+use Rattle.std.proofs.Common.{◌≡◌, ℕ, suc, List, [], ◌∷◌, ◌++◌, refl, sym, subst, append_assoc}
 use Rattle.aegis_num.specs.declared.storage.Block.{Block}
 use Rattle.aegis_num.specs.declared.storage.Place.TheVariants.{Log}
 use Rattle.std.specs.Prelude.{Result}
@@ -16,7 +16,7 @@ use Rattle.hash_tree.proofs.LawProofs.{elsewhere-law}
 use Rattle.stamp_log.specs.declared.causes.LogCause.{LogCause}
 use Rattle.stamp_log.specs.LogState.{LogLines, stamped}
 use Rattle.stamp_log.specs.LogCalls.{MakesRoom, WritesBack}
-use Rattle.stamp_log.specs.LogEvents.{EndsCheck, ReadsInOrder, RunsCheck, StopsReading, reads_from}
+use Rattle.stamp_log.specs.LogEvents.{EndsCheck, ReadsInOrder, RunsCheck, reads_from}
 use Rattle.off_chip.specs.Epochs.{LogEntry}
 
 -- the trace grew by events at no place of the tree

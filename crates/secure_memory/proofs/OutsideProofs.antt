@@ -1,5 +1,5 @@
 -- Events at no place of a block, and examples of them.
-use Rattle.std.proofs.Common.{◌≡◌, ℕ, true, false, List, None, refl, sym, subst}
+use Rattle.std.proofs.Common.{◌≡◌, true, false, None, refl, sym, subst}
 use Rattle.aegis_num.specs.declared.storage.Block.{Block}
 use Rattle.aegis_num.specs.declared.storage.Place.TheVariants.{Log, Tree}
 use Rattle.off_chip.specs.declared.event.Event.{Event}

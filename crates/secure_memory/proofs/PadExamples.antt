@@ -1,12 +1,12 @@
 -- Worked examples: which tree blocks of a memory hold private data, and what stands off chip for a payload. Ten data blocks have a tree
 -- three levels high, whose nodes are the blocks 0 to 12: block 13 is verified, 14 and 15 are private, and 16 to 18 are constant.
-use Rattle.std.proofs.Common.{◌≡◌, ℕ, true, false, List, [], ◌∷◌, refl, lit≤}
+use Rattle.std.proofs.Common.{◌≡◌, ℕ, true, false, List, refl, lit≤}
 use Rattle.aegis_num.specs.declared.storage.Key.{Key}
 use Rattle.regions.specs.declared.layout.Layout.{Layout}
 use Rattle.regions.specs.Tree.{height_of}
 use Rattle.aes_pad.specs.Cipher.{xor_bytes}
 use Rattle.aes_pad.specs.Pads.{pad}
-use Rattle.secure_memory.specs.PrivatePads.{Padding, first_private, is_private_block, hidden_payload}
+use Rattle.secure_memory.specs.PrivatePads.{first_private, is_private_block, hidden_payload}
 
 abbrev layout : Layout
 layout = record { verified = 1; private = 2; constants = 3; code = 4; log = 5; shared = 12; data_fits = lit≤ tt; log_fits = lit≤ tt; shared_fits = lit≤ tt }

@@ -1,7 +1,6 @@
 -- Promise: what a secure memory does where its program is entered.
 use Rattle.std.specs.Prelude.{◌≡◌, ℕ, [], ◌∷◌, ◌++◌, List}
 use Rattle.std.specs.FinMap.{empty}
-use Rattle.regions.specs.declared.layout.Layout.{Layout}
 use Rattle.off_chip.specs.declared.event.Event.{Event}
 use Rattle.off_chip.specs.declared.event.Event.TheVariants.{Note}
 use Rattle.off_chip.specs.declared.event.Mark.TheVariants.{Enter}

@@ -1,7 +1,5 @@
 -- Device: the laws that the veil of private blocks keeps.
-use Rattle.std.proofs.Common.{◌≡◌, ℕ, ◌+◌, ◌<◌, ◌≤◌, Bool, true, false, cond, List, length, refl, sym, ◌∙◌, inl, inr, arith}
-use Rattle.std.specs.Prelude.{◌&&◌, nat_le, nat_lt}
-use Rattle.std.proofs.lemmas.Bool.{cases_Bool}
+use Rattle.std.proofs.Common.{◌≡◌, ℕ, ◌<◌, Bool, true, false, cond, List, length, refl, sym, ◌∙◌, arith}
 use Rattle.regions.specs.declared.layout.Layout.{Layout}
 use Rattle.hash_tree.specs.HashTrees.{nodes_of}
 use Rattle.aes_pad.specs.Cipher.{xor_bytes}

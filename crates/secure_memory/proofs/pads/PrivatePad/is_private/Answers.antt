@@ -1,4 +1,4 @@
-use Rattle.std.proofs.Common.{◌<◌, arith}
+use Rattle.std.proofs.Common.{arith}
 use Rattle.regions.specs.Tree.{height_of}
 use Rattle.regions.proofs.TreeLaws.{level_start-three}
 use Rattle.secure_memory.proofs.pads.PrivatePad.is_private.Goals as goal
