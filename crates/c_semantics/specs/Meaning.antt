@@ -139,7 +139,8 @@ abbrev pub result_of : Flow → ℕ
 result_of (Returned v) = v
 result_of flow = 0
 
--- The parameters get the arguments. A call has as many arguments as its function has parameters, so that none is missing.
+-- The parameters get the arguments. A call in a checked program has as many arguments as its function has parameters, so that none
+-- is missing: the clause shape of `c_meaning::resolved_is_well_shaped` says so.
 abbrev pub given : Setting → List Variable → List ℕ → State → State
 given setting [] words state = state
 given setting (x ∷ xs) [] state = state
@@ -154,7 +155,8 @@ function_meaning setting calls f words state =
 abbrev pub with_function : Setting → Calls → ℕ → Function → Calls
 with_function setting calls number f function words = choose (number == function) (function_meaning setting calls f words) (calls function words)
 
--- There is no function yet. A call goes to a function that stands before it, so that this is never asked.
+-- There is no function yet. A call in a checked program goes to a function before its own, so that this is never asked: the clause
+-- shape of `c_meaning::resolved_is_well_shaped` says so.
 abbrev pub no_calls : Calls
 no_calls function words = GoesOn 0
 

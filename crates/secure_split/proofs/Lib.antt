@@ -1,4 +1,3 @@
-mod Checker
 mod Counting
 mod LayoutLists
 mod Lists
