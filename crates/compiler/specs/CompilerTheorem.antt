@@ -1,9 +1,11 @@
 -- Promise: what the image of a source does, in the terms of the source. This is the theorem of the compiler.
 use Rattle.std.specs.Prelude.{◌≡◌, ◌≢◌, ℕ, ◌+◌, ◌*◌, ◌≤◌, Bool, List, [], map, Option, Some, None}
+use Rattle.std.specs.List.{AllByRecursion}
 use Rattle.execution.specs.Run.{Stops, state_of}
 use Rattle.execution.specs.Traffic.{Entry, Extends}
 use Rattle.execution.specs.Naming.{entry_named, traffic_named}
 use Rattle.regions.specs.declared.Class.{Class}
+use Rattle.regions.specs.declared.Layout.{Layout}
 use Rattle.regions.specs.LooseClasses.{nothing_loose, shared_loose, shared_and_logged_loose}
 use Rattle.c_grammar.specs.declared.item.Program.{Program}
 use Rattle.c_resolver.specs.Resolving.{plain_program}
@@ -17,7 +19,7 @@ use Rattle.image_file.specs.declared.Image.{Image}
 use Rattle.image_file.specs.ImageTable.{static_bytes}
 use Rattle.codegen.specs.EmittedImage.{image_run}
 use Rattle.compiler.specs.MemoryUse.{HasMemory, IsSmallImage}
-use Rattle.compiler.specs.Places.{HasPlaces, element_at}
+use Rattle.compiler.specs.Places.{HasPlaces, element_at, place}
 
 -- What the source means with these classes loose, where the words from outside are given for addresses: one at an address is taken
 -- where the source reads the element that lies there. Work and counts are noted.
@@ -38,6 +40,10 @@ pub record EndsAsMeant (p : Program) (image : Image) (m : Meaning) (end : IdealE
   pub ending : machine_end m.end ≡ Some end
   pub traffic : traffic_named (element_at p image.layout) state.traffic ≡ m.traffic
 
+-- a word is written at the address of an element
+abbrev pub IsWrittenInPlace : Program → Layout → Entry ℕ → Type 0
+IsWrittenInPlace p layout written = place p layout (element_at p layout written.place) ≡ Some written.place
+
 -- With these classes loose the ideal machine does on the image what the source means, for each input and for each list of words from
 -- outside.
 pub record MeansSource (loose : Class → Bool) (p : Program) (image : Image) : Type 0 where
@@ -52,6 +58,8 @@ pub record MeansSource (loose : Class → Bool) (p : Program) (image : Image) : 
   -- and where the machine has ended, the source has come to that end by then
   pub ended : (input : List ℕ) (words : List (Entry ℕ)) (steps : ℕ) (end : IdealEnd) (state : Ideal) → image_run loose image input words steps ≡ Stops end state →
       EndsAsMeant p image (meant loose p image input words (64 * (steps + 1))) end state
+  -- each word that it has written to a shared address is written at the address of an element of the source
+  pub written : (input : List ℕ) (words : List (Entry ℕ)) (steps : ℕ) → AllByRecursion (IsWrittenInPlace p image.layout) (state_of (image_run loose image input words steps)).traffic.writes
   pub never_refused : (input : List ℕ) (words : List (Entry ℕ)) (steps : ℕ) (why : Why) (state : Ideal) →
       image_run loose image input words steps ≢ Stops (machine.Refused why) state
 
