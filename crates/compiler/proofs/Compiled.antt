@@ -1,5 +1,5 @@
 -- The image of a source is compiled from it.
-use Rattle.std.proofs.Common.{◌≡◌, Bool, refl}
+use Rattle.std.proofs.Common.{Bool, refl}
 use Rattle.std.specs.Prelude.{Result, Ok, Err, IfOk}
 use Rattle.regions.specs.declared.Class.{Class}
 use Rattle.regions.specs.LooseClasses.{nothing_loose, shared_and_logged_loose, shared_loose}

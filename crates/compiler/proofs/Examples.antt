@@ -1,10 +1,7 @@
 -- The address map, the numbers and the ends at work, each of which computes.
-use Rattle.std.proofs.Common.{◌≡◌, ℕ, Bool, false, true, List, [], ◌∷◌, ◌++◌, codes, Option, Some, None, lit≤, refl}
-use Rattle.execution.specs.Traffic.{Element}
-use Rattle.regions.specs.declared.Class.{Class}
-use Rattle.regions.specs.declared.Class.TheVariants.{Constant, Logged, Open, Private, Verified}
+use Rattle.std.proofs.Common.{◌≡◌, ℕ, false, true, List, [], ◌∷◌, codes, Option, Some, None, lit≤, refl}
+use Rattle.regions.specs.declared.Class.TheVariants.{Verified}
 use Rattle.regions.specs.declared.Layout.{Layout}
-use Rattle.c_grammar.specs.declared.item.Item.{Item}
 use Rattle.c_grammar.specs.declared.item.Item.TheVariants as item
 use Rattle.c_grammar.specs.declared.item.Kind3.TheVariants.{Int}
 use Rattle.c_grammar.specs.declared.item.Program.{Program}

@@ -1,5 +1,5 @@
 -- The image of a source does what the source means.
-use Rattle.std.proofs.Common.{◌≡◌, ◌≢◌, ℕ, ◌+◌, ◌-◌, ◌*◌, ◌≤◌, Bool, List, [], ◌∷◌, map, Option, Some, None, arith, refl, sym, ◌∙◌, ap, subst}
+use Rattle.std.proofs.Common.{◌≡◌, ◌≢◌, ℕ, ◌+◌, ◌-◌, ◌*◌, ◌≤◌, Bool, List, [], ◌∷◌, map, Some, None, arith, refl, sym, ◌∙◌, ap, subst}
 use Rattle.std.specs.List.{AllByRecursion}
 use Rattle.execution.specs.Run.{Stops, state_of}
 use Rattle.execution.specs.Traffic.{Element, Entry, Traffic, Extends}
@@ -22,7 +22,6 @@ use Rattle.lowering.specs.Cells.{source_element}
 use Rattle.lowering.specs.Lowering.{lowered}
 use Rattle.lowering.specs.LoweringLaws.{flat_end}
 use Rattle.secure_split.specs.SplitLaws.{ComesTo, GoesBackward, GoesForward, HasSourceCells, IsWithinWork}
-use Rattle.orbis_core.specs.Ideal as machine
 use Rattle.orbis_core.specs.Ideal.{Ideal, IdealEnd}
 use Rattle.region_plan.specs.Homes.{home_address}
 use Rattle.image_file.specs.declared.Image.{Image}
@@ -70,8 +69,8 @@ own-end e end h turns = no-end end (sym (ap flat_end turns) ∙ h)
 -- ---- both ways
 
 module _ (loose : Class → Bool) (p : Program) (im : Image) (code : MeansCode loose (lowered (plain_program p)) im)
-  (forth : GoesForward p (lowered (plain_program p)) loose) (back : GoesBackward p (lowered (plain_program p)) loose) (work : IsWithinWork p (lowered (plain_program p)) loose)
-  (has : HasSourceCells p (lowered (plain_program p))) (places : HasPlaces p im.layout) where
+    (forth : GoesForward p (lowered (plain_program p)) loose) (back : GoesBackward p (lowered (plain_program p)) loose) (work : IsWithinWork p (lowered (plain_program p)) loose)
+    (has : HasSourceCells p (lowered (plain_program p))) (places : HasPlaces p im.layout) where
   abbrev tree : Tree.Program
   tree = plain_program p
 

@@ -1,5 +1,5 @@
 -- The image of a source has the memory that the source takes.
-use Rattle.std.proofs.Common.{◌≡◌, ℕ, zero, suc, ◌+◌, ◌*◌, ◌/◌, ◌≤◌, Bool, true, false, cond, List, [], ◌∷◌, ◌++◌, length, Option, arith, refl, sym, ◌∙◌, ap, subst}
+use Rattle.std.proofs.Common.{◌≡◌, ℕ, zero, suc, ◌+◌, ◌*◌, ◌/◌, ◌≤◌, Bool, true, false, cond, List, [], ◌∷◌, length, arith, refl, ◌∙◌, ap}
 use Rattle.std.proofs.lemmas.List.Sums.{sum_by-append, sum_by-cons}
 use Rattle.regions.specs.declared.Class.{Class}
 use Rattle.regions.specs.declared.Class.TheVariants.{Constant, Logged, Open, Private, Verified}
@@ -8,18 +8,15 @@ use Rattle.c_grammar.specs.declared.item.Program.{Program}
 use Rattle.c_meaning.specs.SourceNodes.{items_count}
 use Rattle.c_resolver.specs.Resolving.{plain_program}
 use Rattle.c_semantics.specs.ResolvedTree.{Function}
-use Rattle.ir_code.specs.declared.Cell.{Cell}
 use Rattle.ir_code.specs.declared.Op.{Op}
-use Rattle.ir_code.specs.OpTable.{weight_of}
 use Rattle.lowering.specs.Cells.{cell_count, cells_of, class_for, function_cells, words}
 use Rattle.lowering.specs.Lowering.{lowered}
 use Rattle.lowering.specs.Sizes.{weight_of_all}
 use Rattle.secure_split.specs.SplitLaws.{IsSmallCode}
-use Rattle.region_plan.specs.declared.PlanError.{PlanError}
 use Rattle.region_plan.specs.Homes.{HasSizes, blocks_for, class_words, is_same_class, words_for}
 use Rattle.region_plan.specs.PlanFaults.{fault_of, plan_fault}
 use Rattle.image_file.specs.declared.Image.{Image}
-use Rattle.codegen.specs.ImageCode.{code_blocks, code_size, size_of}
+use Rattle.codegen.specs.ImageCode.{code_blocks, code_size}
 use Rattle.codegen.specs.EmittedImage.{IsImageOf}
 use Rattle.codegen.proofs.Sizes.{sizes-fit-weights}
 use Rattle.compiler.specs.MemoryUse.{HasMemory, IsSmallImage, constant_blocks, function_words, is_as_private, private_blocks, source_fault, verified_blocks}

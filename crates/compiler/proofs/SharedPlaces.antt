@@ -1,5 +1,5 @@
 -- What others see written is written where the address map says.
-use Rattle.std.proofs.Common.{◌≡◌, ℕ, zero, suc, ◌+◌, ◌<◌, Bool, true, false, cond, ◌==◌, nat_lt, List, [], ◌∷◌, ◌++◌, length, map, Option, Some, None, option_map, arith, refl, sym, ◌∙◌, ap, subst}
+use Rattle.std.proofs.Common.{◌≡◌, ℕ, zero, suc, ◌+◌, ◌<◌, Bool, true, false, cond, ◌==◌, nat_lt, List, [], ◌∷◌, ◌++◌, map, Option, Some, None, option_map, arith, refl, sym, ◌∙◌, ap}
 use Rattle.std.proofs.lemmas.Bool.{eq-eqb, eqb-true, lt-ltb}
 use Rattle.std.specs.List.{slice_get, AllByRecursion}
 use Rattle.execution.specs.Traffic.{Element, Entry}
@@ -13,14 +13,14 @@ use Rattle.c_resolver.specs.Resolving.{plain_program}
 use Rattle.c_semantics.specs.ProgramShape.{word_count}
 use Rattle.c_semantics.specs.ResolvedTree.{Function, Object}
 use Rattle.ir_code.specs.declared.Cell.{Cell}
-use Rattle.ir_code.specs.FlatStates.{class_in, class_of, words_in, words_of}
+use Rattle.ir_code.specs.FlatStates.{class_in, words_in, words_of}
 use Rattle.lowering.specs.Cells.{cell_count, cells_of, class_for, function_cells, home_of, object_cell, object_cells, source_element, words}
 use Rattle.lowering.specs.Lowering.{lowered}
 use Rattle.secure_split.specs.SplitLaws.{HasSourceCells}
 use Rattle.region_plan.specs.Homes.{home_address}
 use Rattle.codegen.specs.EmittedImage.{address_name, elements_from}
 use Rattle.compiler.specs.Places.{HasPlaces, element_at, place, place_after, place_among}
-use Rattle.compiler.proofs.Placed.{AreKept, IsKept, are-kept}
+use Rattle.compiler.proofs.Placed.{AreKept, are-kept}
 use Rattle.compiler.proofs.Written.{IsOpenCell}
 
 -- ---- shared cells are those of objects

@@ -15,7 +15,7 @@ use Rattle.regions.specs.Rights.{rights}
 use Rattle.ir_code.specs.declared.Ir.{Ir}
 use Rattle.ir_code.specs.declared.Op.{Op}
 use Rattle.ir_code.specs.declared.Op.TheVariants as op
-use Rattle.ir_code.specs.FlatStates.{Held, Word, Link, FlatState, FlatEnd, Later, pick, stuck, class_of, words_of, is_allowed, is_shared, element_at, changed, label_place, fetched, first_flat, mode_of}
+use Rattle.ir_code.specs.FlatStates.{Held, Word, Link, FlatState, FlatEnd, Later, pick, stuck, class_of, words_of, is_allowed, is_shared, element_at, label_place, fetched, first_flat, mode_of}
 use Rattle.ir_code.specs.FlatMeaning.{touching, with_word, with_link, with_given, kept_word, loosely, taken_word, reading, written, writing, put, going, jumping, effect, at_op, flat_step, flat_run}
 
 -- an element of a shared cell

@@ -1,5 +1,5 @@
 -- Promise: what the image of a source does, in the terms of the source. This is the theorem of the compiler.
-use Rattle.std.specs.Prelude.{◌≡◌, ◌≢◌, ℕ, ◌+◌, ◌*◌, ◌≤◌, Bool, List, [], map, Option, Some, None}
+use Rattle.std.specs.Prelude.{◌≡◌, ◌≢◌, ℕ, ◌+◌, ◌*◌, ◌≤◌, Bool, List, map, Option, Some, None}
 use Rattle.std.specs.List.{AllByRecursion}
 use Rattle.execution.specs.Run.{Stops, state_of}
 use Rattle.execution.specs.Traffic.{Entry, Extends}
@@ -10,7 +10,7 @@ use Rattle.regions.specs.LooseClasses.{nothing_loose, shared_loose, shared_and_l
 use Rattle.c_grammar.specs.declared.item.Program.{Program}
 use Rattle.c_resolver.specs.Resolving.{plain_program}
 use Rattle.c_semantics.specs.States as source
-use Rattle.c_semantics.specs.Meaning.{Meaning, mean, mean_alone, noting_all}
+use Rattle.c_semantics.specs.Meaning.{Meaning, mean, noting_all}
 use Rattle.orbis_core.specs.Ideal as machine
 use Rattle.orbis_core.specs.Ideal.{Ideal, IdealEnd}
 use Rattle.orbis_core.specs.Soundness.{IsSound}

@@ -1,5 +1,5 @@
 -- Promise: at which address each element of the objects of a source lies.
-use Rattle.std.specs.Prelude.{◌≡◌, ℕ, ◌+◌, ◌*◌, Bool, cond, ◌==◌, nat_lt, List, [], ◌∷◌, ◌++◌, map, Option, Some, None, option_map}
+use Rattle.std.specs.Prelude.{◌≡◌, ℕ, ◌+◌, ◌*◌, cond, ◌==◌, nat_lt, List, [], ◌∷◌, ◌++◌, map, Option, Some, None, option_map}
 use Rattle.execution.specs.Traffic.{Element, Entry}
 use Rattle.execution.specs.Naming.{entry_named, element_by}
 use Rattle.regions.specs.declared.Class.{Class}

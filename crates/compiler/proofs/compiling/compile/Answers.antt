@@ -1,10 +1,8 @@
 use Rattle.std.proofs.Common.{◌≡◌, ◌∙◌, inl, Bool, ap, refl, subst}
 use Rattle.regions.specs.declared.Class.{Class}
 use Rattle.regions.specs.LooseClasses.{shared_and_logged_loose, shared_loose}
-use Rattle.c_resolver.specs.Resolving.{plain_program}
 use Rattle.ir_code.specs.declared.Ir.{Ir}
 use Rattle.ir_code.specs.Lawful.{IsLawful}
-use Rattle.lowering.specs.Lowering.{lowered}
 use Rattle.orbis_core.specs.Soundness.{IsSound}
 use Rattle.region_plan.specs.PlanFaults.{plan_fault}
 use Rattle.image_file.specs.declared.Image.{Image}
