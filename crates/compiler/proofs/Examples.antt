@@ -1,19 +1,22 @@
 -- The address map, the numbers and the ends at work, each of which computes.
-use Rattle.std.proofs.Common.{◌≡◌, ℕ, false, true, List, [], ◌∷◌, codes, Option, Some, None, lit≤, refl}
+use Rattle.std.proofs.Common.{◌≡◌, ℕ, false, true, List, [], ◌∷◌, ◌++◌, codes, Option, Some, None, lit≤, refl}
 use Rattle.regions.specs.declared.Class.TheVariants.{Verified}
 use Rattle.regions.specs.declared.Layout.{Layout}
+use Rattle.c_grammar.specs.declared.item.Item.{Item}
 use Rattle.c_grammar.specs.declared.item.Item.TheVariants as item
 use Rattle.c_grammar.specs.declared.item.Kind3.TheVariants.{Int}
 use Rattle.c_grammar.specs.declared.item.Program.{Program}
 use Rattle.c_grammar.specs.declared.item.Storage.TheVariants as storage
+use Rattle.c_grammar.specs.declared.item.Storage.{Storage}
+use Rattle.region_plan.specs.declared.PlanError.TheVariants.{LogFull, OpenFull, TreeFull}
 use Rattle.c_semantics.specs.declared.tree.Variable.{Variable}
 use Rattle.c_semantics.specs.ResolvedTree.{Function, Local, Nothing, Number, Binary, Object, Return, Then}
 use Rattle.aegis_num.specs.declared.BinaryOp.TheVariants.{Add}
 use Rattle.c_semantics.specs.States as source
 use Rattle.orbis_core.specs.Ideal as machine
 use Rattle.compiler.specs.CompilerTheorem.{machine_end}
-use Rattle.compiler.specs.MemoryUse.{constant_blocks, function_words, is_as_private, log_blocks, private_blocks, shared_bytes, verified_blocks}
-use Rattle.compiler.specs.Places.{place, place_among, words_of_class}
+use Rattle.compiler.specs.MemoryUse.{constant_blocks, function_words, is_as_private, log_blocks, private_blocks, shared_bytes, source_fault, verified_blocks}
+use Rattle.compiler.specs.Places.{address_of, element_at, place, place_among, words_of_class}
 
 -- __shared int s[3]; __logged int l; int v[20]; __private int q; const int c[2] = {7, -1}; __shared int t; int w; __logged int m[2];
 -- int main(void) {}
@@ -81,6 +84,26 @@ alike = (refl, refl, refl, refl)
 -- 21 words of objects and two of `main`, one, two and three; each but the first in one block; and 16 bytes
 numbers : (verified_blocks small ≡ 2) × (private_blocks small ≡ 1) × (constant_blocks small ≡ 1) × (log_blocks small ≡ 1) × (shared_bytes small ≡ 16)
 numbers = (refl, refl, refl, refl, refl)
+
+-- no limit is passed; each one alone; the tree is told before the log, and the log before shared bytes
+abbrev holding : List Item → Program
+holding items = record { items = items ++ (item.Function false Int (codes "main") [] [] 9 ∷ []) }
+
+abbrev wide : ℕ → Storage → ℕ → Item
+wide token storage length' = item.Object storage false (codes "x") (Some length') token
+
+fits : (source_fault small ≡ None) × (source_fault (holding (wide 1 storage.Shared 8192 ∷ [])) ≡ None) × (source_fault (holding (wide 1 storage.Logged 16384 ∷ [])) ≡ None)
+fits = (refl, refl, refl)
+
+faults : (source_fault (holding (wide 1 storage.Shared 8193 ∷ [])) ≡ Some (OpenFull 32772))
+    × (source_fault (holding (wide 1 storage.Logged 16385 ∷ wide 2 storage.Shared 8193 ∷ [])) ≡ Some (LogFull 1025))
+    × (source_fault (holding (wide 1 storage.Verified 65536 ∷ wide 2 storage.Private 65536 ∷ wide 3 storage.Logged 16385 ∷ [])) ≡ Some (TreeFull 8194))
+faults = (refl, refl, refl)
+
+-- ---- names: an address of the map, both ways
+
+names : (element_at small layout 32776 ≡ record { variable = 1; index = 2 }) × (address_of small layout (record { variable = 1; index = 2 }) ≡ 32776)
+names = (refl, refl)
 
 -- ---- ends
 
