@@ -1,0 +1,7 @@
+mod Bytes
+pub mod Counts
+mod Layouts
+mod Progress
+mod Released
+pub mod Runs
+mod Sending
