@@ -1,5 +1,6 @@
 mod Bytes
 pub mod Counts
+mod Examples
 mod Layouts
 mod Progress
 mod Released
