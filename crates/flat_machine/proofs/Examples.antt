@@ -1,6 +1,7 @@
 -- Worked images: what a run of each comes to.
-use Rattle.std.proofs.Common.{◌≡◌, ℕ, List, [], ◌∷◌, ◌++◌, length, replicate, Option, None, Some, refl, ap, arith, length-append, lit≤, lit<}
+use Rattle.std.proofs.Common.{◌≡◌, ℕ, ◌+◌, List, [], ◌∷◌, ◌++◌, length, replicate, Option, None, Some, take, refl, ◌∙◌, ap, subst, arith, length-append, lit≤, lit<}
 use Rattle.execution.specs.Run.{state_of}
+use Rattle.aegis_edge.specs.Sink.{AppendsFront}
 use Rattle.orbis_word.specs.Reading.{instruction_in, signed}
 use Rattle.regions.specs.Addresses.{class_at}
 use Rattle.image_file.specs.declared.Image.{Image}
@@ -122,3 +123,14 @@ not_cut_in_silence fuel old new cut =
     let nothing : [] ≡ released_in hello [] cut.before ++ cut.byte ∷ [] = cut.released in
     let no_byte : 0 ≡ length (released_in hello [] cut.before ++ cut.byte ∷ []) = ap length nothing in
     absurd (omega (arith, no_byte, length-append (released_in hello [] cut.before) (cut.byte ∷ [])))
+
+-- nor where the sink no longer has what it had
+not_cut_after_loss : IsCutShort hello [] 4 2 (Some (9 ∷ [])) (Some []) → ⊥
+unfolding instruction_in signed class_at
+not_cut_after_loss cut =
+    let second : cut.before ≡ 1 = omega (arith, cut.last) in
+    let nothing : released_in hello [] cut.before ≡ [] = ap (λ n. released_in hello [] n) second in
+    let middle : cut.middle ≡ Some (9 ∷ []) = cut.taken ∙ ap (λ (l : List ℕ). Some (9 ∷ l)) nothing in
+    let front : AppendsFront (Some (9 ∷ [])) (Some []) (cut.byte ∷ []) = subst (λ (m : Option (List ℕ)). AppendsFront m (Some []) (cut.byte ∷ [])) middle cut.front in
+    let lost : [] ≡ 9 ∷ take front.0 (cut.byte ∷ []) = cc in
+    absurd (cc)
