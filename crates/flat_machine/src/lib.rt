@@ -6,6 +6,3 @@ mod ran;
 
 pub use machine::run_image;
 pub use ran::{ImageEnd, Ran};
-
-#[cfg(test)]
-mod tests;
