@@ -1,0 +1,4 @@
+pub mod BusStepLemmas
+pub mod SegmentLemmas
+mod Worked
+mod WorkedData
