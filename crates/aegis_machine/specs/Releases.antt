@@ -1,5 +1,5 @@
 -- Promise: bytes that were released and are held until a check has passed, and how they are sent.
-use Rattle.std.specs.Prelude.{◌≡◌, ℕ, List, [], ◌∷◌, ◌++◌, length, Option, Some, Result, OnOk, OnErr}
+use Rattle.std.specs.Prelude.{ℕ, List, [], ◌∷◌, length, Option, Result, OnOk, OnErr}
 use Rattle.aegis_edge.specs.Sink.{Appends, AppendsFront}
 use Rattle.off_chip.specs.declared.Event.{Event}
 use Rattle.off_chip.specs.declared.Event.TheVariants.{Note}

@@ -1,5 +1,5 @@
 -- A step over a memory whose calls are told in the form of a bus is a step of the bus machine over the events that it appended.
-use Rattle.std.proofs.Common.{◌≡◌, ℕ, ◌+◌, Bool, true, false, cond, eqb, ◌&&◌, List, [], ◌∷◌, ◌++◌, Option, Some, None, option_map, Result, Ok, Err, refl, sym, ap, ◌∙◌, subst}
+use Rattle.std.proofs.Common.{◌≡◌, ℕ, Bool, true, false, cond, List, [], ◌∷◌, ◌++◌, Option, Some, None, option_map, Result, Ok, Err, refl, sym, ap, ◌∙◌, subst}
 use Rattle.std.specs.Prelude.{IsTrue, if◌then◌else◌}
 use Rattle.std.specs.List.{list_all}
 use Rattle.std.proofs.lemmas.Bool.{and_parts, and_from, eq-eqb}
@@ -15,29 +15,27 @@ use Rattle.regions.specs.Modes.{is_secure}
 use Rattle.off_chip.specs.declared.event.Event.{Event}
 use Rattle.off_chip.specs.declared.event.Event.TheVariants.{BlockRead, BlockWrite, WordRead, WordWrite, Note}
 use Rattle.off_chip.specs.declared.event.Mark.TheVariants as marks
-use Rattle.off_chip.specs.declared.event.Who.TheVariants.{Secure, Untrusted}
+use Rattle.off_chip.specs.declared.event.Who.TheVariants.{Secure}
 use Rattle.off_chip.specs.Histories.{first_told}
 use Rattle.orbis_core.specs.declared.Effect.{Effect}
 use Rattle.orbis_core.specs.declared.Effect.TheVariants as effect
 use Rattle.orbis_core.specs.declared.Stop.{Stop}
 use Rattle.orbis_core.specs.declared.Stop.TheVariants as stop
 use Rattle.orbis_core.specs.declared.Why.{Why}
-use Rattle.orbis_core.specs.declared.Why.TheVariants as why
 use Rattle.orbis_core.specs.declared.Port.{Port}
 use Rattle.orbis_core.specs.declared.StepEnd.{StepEnd}
-use Rattle.orbis_core.specs.declared.StepEnd.TheVariants as end
 use Rattle.orbis_core.specs.Accesses.{Accesses}
 use Rattle.orbis_core.specs.ByteOrder.{byte_in, updated, with_byte, word_start}
 use Rattle.orbis_core.specs.Effects.{effect_of}
-use Rattle.orbis_core.specs.Ideal.{Ideal, from_reads, is_among, memory_stored, traffic_stored}
-use Rattle.orbis_core.specs.OwnMemory.{HasInput, Own, OwnLoad, OwnStore, ideal_of, own_accesses}
+use Rattle.orbis_core.specs.Ideal.{from_reads, is_among, memory_stored, traffic_stored}
+use Rattle.orbis_core.specs.OwnMemory.{Own, OwnLoad, OwnStore, ideal_of, own_accesses}
 use Rattle.orbis_core.specs.Processor.{Processor}
 use Rattle.orbis_core.specs.Refusals.{answered, word_refusal, byte_refusal}
 use Rattle.orbis_core.specs.Rows.{Machine, Carries, Executes, GoesOnAfter, IsSettledEnd, IsStopped, Leaves, Steps, end_after, over}
 use Rattle.orbis_core.proofs.OwnLemmas.{step-facts}
-use Rattle.bus_machine.specs.BusAccesses.{ByClass, Exchanges, Fails, FetchesOver, Makes, MeetsBus, Moves, PutsInBlock, ReadsBlock, ReadsOpen, Sight, UnlessRefused, is_access_event, is_block_event}
+use Rattle.bus_machine.specs.BusAccesses.{ByClass, Exchanges, Fails, Makes, MeetsBus, PutsInBlock, ReadsBlock, ReadsOpen, Sight, UnlessRefused, is_access_event, is_block_event}
 use Rattle.bus_machine.specs.BusMachine.{Veil, blocks_taken, word_among, word_given}
-use Rattle.bus_machine.specs.BusSteps.{GoesAlong, SameButWords, StepIsOnBus, StepsOnBus, bus_state}
+use Rattle.bus_machine.specs.BusSteps.{SameButWords, StepIsOnBus, StepsOnBus}
 use Rattle.bus_machine.proofs.SegmentLemmas.{taken-append}
 
 -- ---- events
@@ -117,7 +115,7 @@ record Second {M : Type 0} (veil : Veil) (sight : Sight M) (first : List Event) 
   accesses : list_all is_access_event events ≡ true
   does : IsSettledEnd ended → (memory : ℕ → ℕ) (traffic : Traffic ℕ) → sight.Agrees middle memory
       → Done veil sight middle new events memory traffic
-          (goal (own_at (sight.layout middle) (sight.mode middle) (first ++ events) (blocks_taken (sight.layout middle) veil events memory) traffic))
+      (goal (own_at (sight.layout middle) (sight.mode middle) (first ++ events) (blocks_taken (sight.layout middle) veil events memory) traffic))
 
 module _ {M : Type 0} (veil : Veil) (sight : Sight M) (first : List Event) (first_blocks : list_all is_block_event first ≡ true) (middle new : M) where
   abbrev layout : Layout
@@ -160,7 +158,7 @@ module _ {M : Type 0} (veil : Veil) (sight : Sight M) (first : List Event) (firs
   -- a load
   module _ (ended : StepEnd) (start : ℕ) (of_word : ℕ → ℕ) (value : (ℕ → ℕ) → ℕ) (came : Own → Option ℕ)
       (comes : (own : Layout) (mode : Mode) (events : List Event) (memory : ℕ → ℕ) (traffic : Traffic ℕ) (word : ℕ) → word_among events start ≡ Some word
-          → came (own_at own mode events memory traffic) ≡ Some (of_word word)) where
+      → came (own_at own mode events memory traffic) ≡ Some (of_word word)) where
     abbrev LoadGoal : Option Why → Bool → Result ℕ Stop → Own → Own → Type 0
     LoadGoal r b answer own after = OwnLoad r b (came own) (value own.memory) own answer after
 
@@ -202,7 +200,7 @@ module _ {M : Type 0} (veil : Veil) (sight : Sight M) (first : List Event) (firs
             reached = (ap (λ (w : ℕ). Ok w) (sym (row.2 taken (row.1.agrees memory agrees))), refl);
           };
     }
-    load-case None false (Err reason) is row = failed (Err reason) ended (LoadGoal None false (Err reason)) is row
+    load-case None false (Err reason) is row = failed {T = ℕ} (Err reason) ended (LoadGoal None false (Err reason)) is row
 
   -- an open word is stored by these events, which read no block
   record StoresOpen (answer : Result (Unit {0}) Stop) : Type 0 where
@@ -212,11 +210,11 @@ module _ {M : Type 0} (veil : Veil) (sight : Sight M) (first : List Event) (firs
     answered : answer ≡ Ok tt
     made : Exchanges sight events middle new
 
-  store-opens : {X Y C : Type 0} (r : Option Why) (b : Bool) (answer : Result (Unit {0}) Stop) → (X → Y)
+  store-opens : (X Y C : Type 0) (r : Option Why) (b : Bool) (answer : Result (Unit {0}) Stop) → (X → Y)
       → UnlessRefused sight r answer middle new (ByClass b X C) → UnlessRefused sight r answer middle new (ByClass b Y C)
-  store-opens (Some reason) b answer f row = row
-  store-opens None true answer f row = f row
-  store-opens None false answer f row = row
+  store-opens X Y C (Some reason) b answer f row = row
+  store-opens X Y C None true answer f row = f row
+  store-opens X Y C None false answer f row = row
 
   -- a store
   module _ (ended : StepEnd) (at value : ℕ) (word : (ℕ → ℕ) → ℕ) where
@@ -225,7 +223,7 @@ module _ {M : Type 0} (veil : Veil) (sight : Sight M) (first : List Event) (firs
 
     store-case : (r : Option Why) (b : Bool) (answer : Result (Unit {0}) Stop) → is_among shared_loose layout at ≡ b → ended ≡ end_after answer
         → UnlessRefused sight r answer middle new
-            (ByClass b (StoresOpen answer) (PutsInBlock veil sight (λ memory. updated memory (word_start at) (word memory)) answer middle new))
+        (ByClass b (StoresOpen answer) (PutsInBlock veil sight (λ memory. updated memory (word_start at) (word memory)) answer middle new))
         → Second veil sight first middle new ended (StoreGoal r answer)
     store-case (Some reason) b answer class is row = nothing ended (StoreGoal (Some reason) answer) row.1 (λ own. (row.0, refl))
     store-case None true answer class is row = record {
@@ -264,7 +262,7 @@ module _ {M : Type 0} (veil : Veil) (sight : Sight M) (first : List Event) (firs
             reached = (refl, refl);
           };
     }
-    store-case None false (Err reason) class is row = failed (Err reason) ended (StoreGoal None (Err reason)) is row
+    store-case None false (Err reason) class is row = failed {T = Unit {0}} (Err reason) ended (StoreGoal None (Err reason)) is row
 
 -- ---- the row of an instruction
 
@@ -280,7 +278,7 @@ none-made {M} sight middle new same = record {
 
 map-goal : {M : Type 0} (veil : Veil) (sight : Sight M) (first : List Event) (middle new : M) (ended : StepEnd) (goal other : Own → Own → Type 0)
     → ((events : List Event) (memory : ℕ → ℕ) (traffic : Traffic ℕ) (after : Own) → let own : Own = own_at (sight.layout middle) (sight.mode middle) events memory traffic in
-      goal own after → other own after)
+    goal own after → other own after)
     → Second veil sight first middle new ended goal → Second veil sight first middle new ended other
 map-goal veil sight first middle new ended goal other f second = record {
   events = second.events;
@@ -288,12 +286,19 @@ map-goal veil sight first middle new ended goal other f second = record {
   accesses = second.accesses;
   does = λ settled memory traffic agrees.
       let done = second.does settled memory traffic agrees in
-      record { after = done.after; unheld = done.unheld; agrees = done.agrees; mode = done.mode; exchanged = done.exchanged; reached = f _ _ _ done.after done.reached };
+      record {
+        after = done.after;
+        unheld = done.unheld;
+        agrees = done.agrees;
+        mode = done.mode;
+        exchanged = done.exchanged;
+        reached = f (first ++ second.events) (blocks_taken (sight.layout middle) veil second.events memory) traffic done.after done.reached;
+      };
 }
 
-byte-comes : (at : ℕ) (layout : Layout) (mode : Mode) (events : List Event) (memory : ℕ → ℕ) (traffic : Traffic ℕ) (word : ℕ) → word_among events (word_start at) ≡ Some word
-    → (own_at layout mode events memory traffic).outside.byte at traffic ≡ Some (byte_in word at)
-byte-comes at layout mode events memory traffic word is = ap (λ (o : Option ℕ). option_map (λ w. byte_in w at) o) is
+byte-comes : (at : ℕ) (own : Layout) (mode : Mode) (events : List Event) (memory : ℕ → ℕ) (traffic : Traffic ℕ) (word : ℕ) → word_among events (word_start at) ≡ Some word
+    → (own_at own mode events memory traffic).outside.byte at traffic ≡ Some (byte_in word at)
+byte-comes at own mode events memory traffic word is = ap (λ (o : Option ℕ). option_map (λ w. byte_in w at) o) is
 
 module _ {M : Type 0} (veil : Veil) (sight : Sight M) (accesses : Accesses M) (meets : MeetsBus veil sight accesses)
     (first : List Event) (first_blocks : list_all is_block_event first ≡ true) (old new : Machine M) (ended : StepEnd) (secure : IsTrue (is_secure (sight.mode old.memory))) where
@@ -325,7 +330,7 @@ module _ {M : Type 0} (veil : Veil) (sight : Sight M) (accesses : Accesses M) (m
       (λ own after. Carries own_accesses (effect.LoadWord d at) (over own old) ended (over after new))
       (λ events memory traffic after done. record { answer = row.answer; loaded = done; ends = row.ends; core = row.core; port = row.port })
       (load-case veil sight first first_blocks middle new.memory ended at (λ word. word) (λ memory. memory at) (λ own. own.outside.word at own.traffic)
-        (λ layout mode events memory traffic word is. is) r b row.answer row.ends (meets.load_word middle new.memory at row.answer secure row.loaded))
+      (λ own mode events memory traffic word is. is) r b row.answer row.ends (meets.load_word middle new.memory at row.answer secure row.loaded))
   effects (effect.LoadByte d at) row =
       let r : Option Why = byte_refusal (sight.layout middle) (sight.mode middle) Read at in
       let b : Bool = is_among shared_loose (sight.layout middle) at in
@@ -334,7 +339,7 @@ module _ {M : Type 0} (veil : Veil) (sight : Sight M) (accesses : Accesses M) (m
       (λ own after. Carries own_accesses (effect.LoadByte d at) (over own old) ended (over after new))
       (λ events memory traffic after done. record { answer = row.answer; loaded = done; ends = row.ends; core = row.core; port = row.port })
       (load-case veil sight first first_blocks middle new.memory ended (word_start at) (λ word. byte_in word at) (λ memory. byte_in (memory (word_start at)) at) (λ own. own.outside.byte at own.traffic)
-        (byte-comes at) r b row.answer row.ends (meets.load_byte middle new.memory at row.answer secure row.loaded))
+      (byte-comes at) r b row.answer row.ends (meets.load_byte middle new.memory at row.answer secure row.loaded))
   effects (effect.StoreWord at word) row =
       let r : Option Why = word_refusal (sight.layout middle) (sight.mode middle) Write at in
       let b : Bool = is_among shared_loose (sight.layout middle) at in
@@ -343,9 +348,9 @@ module _ {M : Type 0} (veil : Veil) (sight : Sight M) (accesses : Accesses M) (m
       (λ own after. Carries own_accesses (effect.StoreWord at word) (over own old) ended (over after new))
       (λ events memory traffic after done. record { answer = row.answer; stored = done; ends = row.ends; core = row.core; port = row.port })
       (store-case veil sight first first_blocks middle new.memory ended at word (λ memory. word) r b row.answer refl row.ends
-        (store-opens veil sight first first_blocks middle new.memory r b row.answer
-          (λ open. record { events = WordWrite Secure at word ∷ []; accesses = refl; no_block = λ memory. refl; answered = open.0; made = open.1 })
-          (meets.store_word middle new.memory at word row.answer secure row.stored)))
+      (store-opens veil sight first first_blocks middle new.memory _ _ _ r b row.answer
+      (λ made. record { events = WordWrite Secure at word ∷ []; accesses = refl; no_block = λ memory. refl; answered = made.0; made = made.1 })
+      (meets.store_word middle new.memory at word row.answer secure row.stored)))
   effects (effect.StoreByte at byte) row =
       let r : Option Why = byte_refusal (sight.layout middle) (sight.mode middle) Write at in
       let b : Bool = is_among shared_loose (sight.layout middle) at in
@@ -354,15 +359,15 @@ module _ {M : Type 0} (veil : Veil) (sight : Sight M) (accesses : Accesses M) (m
       (λ own after. Carries own_accesses (effect.StoreByte at byte) (over own old) ended (over after new))
       (λ events memory traffic after done. record { answer = row.answer; stored = done; ends = row.ends; core = row.core; port = row.port })
       (store-case veil sight first first_blocks middle new.memory ended at byte (λ memory. with_byte (memory (word_start at)) at byte) r b row.answer refl row.ends
-        (store-opens veil sight first first_blocks middle new.memory r b row.answer
-          (λ open. record {
-            events = WordRead Secure (word_start at) open.0 ∷ WordWrite Secure (word_start at) (with_byte open.0 at byte) ∷ [];
-            accesses = refl;
-            no_block = λ memory. refl;
-            answered = open.1;
-            made = open.2;
-          })
-          (meets.store_byte middle new.memory at byte row.answer secure row.stored)))
+      (store-opens veil sight first first_blocks middle new.memory _ _ _ r b row.answer
+      (λ made. record {
+        events = WordRead Secure (word_start at) made.0 ∷ WordWrite Secure (word_start at) (with_byte made.0 at byte) ∷ [];
+        accesses = refl;
+        no_block = λ memory. refl;
+        answered = made.1;
+        made = made.2;
+      })
+      (meets.store_byte middle new.memory at byte row.answer secure row.stored)))
 
   executes : (found : Option Instr) → Executes accesses found old ended new → Half (λ own after. Executes own_accesses found (over own old) ended (over after new))
   executes None row = leaves _ _ _ row
@@ -372,19 +377,19 @@ module _ {M : Type 0} (veil : Veil) (sight : Sight M) (accesses : Accesses M) (m
 
 module _ {M : Type 0} (veil : Veil) (sight : Sight M) (accesses : Accesses M) (meets : MeetsBus veil sight accesses)
     (old new : Machine M) (ended : StepEnd) (secure : IsTrue (is_secure (sight.mode old.memory))) where
-  abbrev layout : Layout
-  layout = sight.layout old.memory
+  abbrev old_layout : Layout
+  old_layout = sight.layout old.memory
 
-  abbrev mode : Mode
-  mode = sight.mode old.memory
+  abbrev old_mode : Mode
+  old_mode = sight.mode old.memory
 
   -- what the machine's own memory does, with the blocks of these events
   record OwnStepped (events : List Event) (memory : ℕ → ℕ) (traffic : Traffic ℕ) : Type 0 where
     after : Own
     agrees : sight.Agrees new.memory after.memory
-    mode_stays : after.mode ≡ mode
+    mode_stays : after.mode ≡ old_mode
     exchanged : SameButWords traffic after.traffic
-    steps : Steps own_accesses (over (own_at layout mode events (blocks_taken layout veil events memory) traffic) old) ended (over after new)
+    steps : Steps own_accesses (over (own_at old_layout old_mode events (blocks_taken old_layout veil events memory) traffic) old) ended (over after new)
 
   record OwnSteps : Type 0 where
     events : List Event
@@ -394,8 +399,8 @@ module _ {M : Type 0} (veil : Veil) (sight : Sight M) (accesses : Accesses M) (m
 
   -- the fetch was stopped
   stopped : (reason : Stop) (middle : M) (events : List Event) → Makes sight events old.memory middle → list_all is_block_event events ≡ true → IsStopped reason (record old { memory = middle }) ended new
-      → ((memory : ℕ → ℕ) (traffic : Traffic ℕ) → IsSettledEnd ended → sight.Agrees old.memory memory → (sight.Agrees middle (blocks_taken layout veil events memory))
-        × Steps own_accesses (over (own_at layout mode events (blocks_taken layout veil events memory) traffic) old) ended (over (own_at layout mode events (blocks_taken layout veil events memory) traffic) new))
+      → ((memory : ℕ → ℕ) (traffic : Traffic ℕ) → IsSettledEnd ended → sight.Agrees old.memory memory → (sight.Agrees middle (blocks_taken old_layout veil events memory))
+      × Steps own_accesses (over (own_at old_layout old_mode events (blocks_taken old_layout veil events memory) traffic) old) ended (over (own_at old_layout old_mode events (blocks_taken old_layout veil events memory) traffic) new))
       → OwnSteps
   stopped reason middle events made blocks row holds = record {
     events = events;
@@ -403,11 +408,11 @@ module _ {M : Type 0} (veil : Veil) (sight : Sight M) (accesses : Accesses M) (m
     each = blocks-access events blocks;
     does = λ settled memory traffic agrees.
         let both = holds memory traffic settled agrees in
-        let P : M → Type 0 = λ m. sight.Agrees m (blocks_taken layout veil events memory) in
-        record { after = own_at layout mode events (blocks_taken layout veil events memory) traffic; agrees = subst P (sym row.memory) both.0; mode_stays = refl; exchanged = same_traffic traffic; steps = both.1 };
+        let P : M → Type 0 = λ m. sight.Agrees m (blocks_taken old_layout veil events memory) in
+        record { after = own_at old_layout old_mode events (blocks_taken old_layout veil events memory) traffic; agrees = subst P (sym row.memory) both.0; mode_stays = refl; exchanged = same_traffic traffic; steps = both.1 };
   }
 
-  by-answer : (r : Option Why) → r ≡ word_refusal layout mode Fetch old.core.pc → (answer : Result ℕ Stop) (middle : M)
+  by-answer : (r : Option Why) → r ≡ word_refusal old_layout old_mode Fetch old.core.pc → (answer : Result ℕ Stop) (middle : M)
       → UnlessRefused sight r answer old.memory middle (ReadsBlock veil sight (λ memory. memory old.core.pc) answer old.memory middle)
       → GoesOnAfter accesses answer (record old { memory = middle }) ended new → OwnSteps
   by-answer (Some reason) is answer middle row goes_on =
@@ -417,7 +422,7 @@ module _ {M : Type 0} (veil : Veil) (sight : Sight M) (accesses : Accesses M) (m
         row.1.agrees memory agrees,
         record {
           answer = Err (stop.Refused reason);
-          middle = own_at layout mode [] memory traffic;
+          middle = own_at old_layout old_mode [] memory traffic;
           fetched = (ap (λ r. answered r (memory old.core.pc)) is, refl);
           goes_on = record { ends = left.ends; core = left.core; memory = refl; port = left.port };
         },
@@ -432,15 +437,15 @@ module _ {M : Type 0} (veil : Veil) (sight : Sight M) (accesses : Accesses M) (m
         makes = makes-both sight row.0 second.events old.memory middle new.memory moves.makes second.makes;
         each = access-append row.0 second.events (blocks-access row.0 moves.blocks) second.accesses;
         does = λ settled memory traffic agrees.
-            let first : ℕ → ℕ = blocks_taken layout veil row.0 memory in
+            let first : ℕ → ℕ = blocks_taken old_layout veil row.0 memory in
             let done = second.does settled first traffic (moves.agrees memory agrees) in
-            let all : ℕ → ℕ = blocks_taken layout veil events memory in
+            let all : ℕ → ℕ = blocks_taken old_layout veil events memory in
             let taken : blocks_taken (sight.layout middle) veil second.events first ≡ all =
-                ap (λ (l : Layout). blocks_taken l veil second.events first) moves.makes.layout ∙ sym (taken-append layout veil row.0 second.events memory) in
-            let own : own_at (sight.layout middle) (sight.mode middle) events (blocks_taken (sight.layout middle) veil second.events first) traffic ≡ own_at layout mode events all traffic =
-                ap (λ (l : Layout). own_at l (sight.mode middle) events (blocks_taken (sight.layout middle) veil second.events first) traffic) moves.makes.layout
-                ∙ ap (λ (m : Mode). own_at layout m events (blocks_taken (sight.layout middle) veil second.events first) traffic) moves.makes.mode
-                ∙ ap (λ (m : ℕ → ℕ). own_at layout mode events m traffic) taken in
+            ap (λ (l : Layout). blocks_taken l veil second.events first) moves.makes.layout ∙ sym (taken-append old_layout veil row.0 second.events memory) in
+            let own : own_at (sight.layout middle) (sight.mode middle) events (blocks_taken (sight.layout middle) veil second.events first) traffic ≡ own_at old_layout old_mode events all traffic =
+            ap (λ (l : Layout). own_at l (sight.mode middle) events (blocks_taken (sight.layout middle) veil second.events first) traffic) moves.makes.layout
+            ∙ ap (λ (m : Mode). own_at old_layout m events (blocks_taken (sight.layout middle) veil second.events first) traffic) moves.makes.mode
+            ∙ ap (λ (m : ℕ → ℕ). own_at old_layout old_mode events m traffic) taken in
             let value : all old.core.pc ≡ word = ap (λ (m : ℕ → ℕ). m old.core.pc) (sym taken) ∙ row.2 (blocks_taken (sight.layout middle) veil second.events first) done.unheld in
             let Q : Own → Type 0 = λ o. Executes own_accesses (instruction_in word) (over o old) ended (over done.after new) in
             record {
@@ -450,7 +455,7 @@ module _ {M : Type 0} (veil : Veil) (sight : Sight M) (accesses : Accesses M) (m
               exchanged = done.exchanged;
               steps = record {
                 answer = Ok word;
-                middle = own_at layout mode events all traffic;
+                middle = own_at old_layout old_mode events all traffic;
                 fetched = (ap (λ (w : ℕ). Ok w) (sym value) ∙ ap (λ r. answered r (all old.core.pc)) is, refl);
                 goes_on = subst Q own done.reached;
               };
@@ -463,7 +468,7 @@ module _ {M : Type 0} (veil : Veil) (sight : Sight M) (accesses : Accesses M) (m
       stopped (stop.Log event) middle row.0 row.1 row.2 goes_on (λ memory traffic settled agrees. absurd (subst IsSettledEnd goes_on.ends settled))
 
   own-steps : Steps accesses old ended new → OwnSteps
-  own-steps step = by-answer (word_refusal layout mode Fetch old.core.pc) refl step.answer step.middle (meets.fetch old.memory step.middle old.core.pc step.answer secure step.fetched) step.goes_on
+  own-steps step = by-answer (word_refusal old_layout old_mode Fetch old.core.pc) refl step.answer step.middle (meets.fetch old.memory step.middle old.core.pc step.answer secure step.fetched) step.goes_on
 
   pub on-bus : Steps accesses old ended new → StepsOnBus veil sight old new ended
   on-bus step =
@@ -474,7 +479,7 @@ module _ {M : Type 0} (veil : Veil) (sight : Sight M) (accesses : Accesses M) (m
         accesses = own.each;
         goes_along = λ settled memory traffic agrees input.
             let done = own.does settled memory traffic agrees in
-            let start : Machine Own = over (own_at layout mode own.events (blocks_taken layout veil own.events memory) traffic) old in
+            let start : Machine Own = over (own_at old_layout old_mode own.events (blocks_taken old_layout veil own.events memory) traffic) old in
             let facts = step-facts start (over done.after new) ended input done.steps in
             record {
               after = ideal_of (over done.after new);

@@ -1,5 +1,5 @@
 -- The bus machine over the history is the one over the steps, in order.
-use Rattle.std.proofs.Common.{◌≡◌, ℕ, ◌+◌, ◌<◌, ◌≤◌, Bool, true, false, cond, ◌&&◌, ◌||◌, eqb, leb, ltb, List, [], ◌∷◌, ◌++◌, length, take, drop, refl, sym, ap, ◌∙◌, arith, length-append}
+use Rattle.std.proofs.Common.{◌≡◌, ℕ, ◌+◌, ◌≤◌, Bool, true, false, cond, ◌&&◌, ◌||◌, eqb, leb, ltb, List, [], ◌∷◌, ◌++◌, length, take, drop, refl, sym, ap, ◌∙◌, arith, length-append}
 use Rattle.std.specs.List.{slice_split, onto_first}
 use Rattle.std.proofs.lemmas.Bool.{le-ltb, lt-ltb}
 use Rattle.std.proofs.lemmas.List.{append-nil, append_assoc, take-append-drop, length-take-le}
@@ -123,7 +123,7 @@ module _ (entry : ℕ) (veil : Veil) (program : LoadedProgram) where
     since = ap (λ (b : Bool). cond b [] (since_step entry older ++ event ∷ [])) (step-entered entry event older at.entered ∙ done);
     now = bus-goes-on entry veil program event older at.entered
         ∙ ap (λ (b : Bool). cond b (and_then (bus_after entry veil program older) (bus_step program.layout (since_step entry older)))
-            (with_reads program.layout veil (event ∷ []) (bus_after entry veil program older))) done
+        (with_reads program.layout veil (event ∷ []) (bus_after entry veil program older))) done
         ∙ ap (λ (n : Next Ideal IdealEnd). and_then n (bus_step program.layout (since_step entry older))) at.now
         ∙ ap (λ (e : List Event). and_then (with_reads program.layout veil events before) (bus_step program.layout e)) at.since
         ∙ step-reads program.layout veil events before
@@ -138,7 +138,7 @@ module _ (entry : ℕ) (veil : Veil) (program : LoadedProgram) where
         ∙ ap (λ (e : List Event). e ++ event ∷ []) at.since;
     now = bus-goes-on entry veil program event older at.entered
         ∙ ap (λ (b : Bool). cond b (and_then (bus_after entry veil program older) (bus_step program.layout (since_step entry older)))
-            (with_reads program.layout veil (event ∷ []) (bus_after entry veil program older))) other
+        (with_reads program.layout veil (event ∷ []) (bus_after entry veil program older))) other
         ∙ ap (λ (n : Next Ideal IdealEnd). with_reads program.layout veil (event ∷ []) n) at.now
         ∙ sym (reads-append program.layout veil events (event ∷ []) before);
   }
@@ -149,20 +149,22 @@ module _ (entry : ℕ) (veil : Veil) (program : LoadedProgram) where
   followed-now : (rest : List Event) (older : History) (events : List Event) (before : Next Ideal IdealEnd) → StandsIn entry veil program older events before
       → bus_after entry veil program (followed older rest) ≡ now_in program.layout veil (onto events (slice_split is_retire rest)) before
   followed-now [] older events before at = at.now ∙ ap (λ (e : List Event). with_reads program.layout veil e before) (sym (append-nil events))
-  followed-now (event ∷ rest) older events before at = by (is_retire event) refl
+  followed-now (event ∷ rest) older events before at = by (is_retire event) refl (followed-now rest)
     where
       by : (b : Bool) → is_retire event ≡ b
+          → ((older : History) (events : List Event) (before : Next Ideal IdealEnd) → StandsIn entry veil program older events before
+          → bus_after entry veil program (followed older rest) ≡ now_in program.layout veil (onto events (slice_split is_retire rest)) before)
           → bus_after entry veil program (followed (event ◂ older) rest)
           ≡ now_in program.layout veil (onto events (slice_split is_retire (event ∷ rest))) before
-      by true done =
-          followed-now rest (event ◂ older) [] (and_then before (step_over program.layout veil events)) (retires event older events before done at)
+      by true done ih =
+          ih (event ◂ older) [] (and_then before (step_over program.layout veil events)) (retires event older events before done at)
           ∙ ap (λ (parts : List (List Event)). now_in program.layout veil parts (and_then before (step_over program.layout veil events)))
-              (onto-none (slice_split is_retire rest) (some-parts rest))
+          (onto-none (slice_split is_retire rest) (some-parts rest))
           ∙ sym (now-cons program.layout veil events (slice_split is_retire rest) before (some-parts rest))
           ∙ ap (λ (e : List Event). now_in program.layout veil (e ∷ slice_split is_retire rest) before) (sym (append-nil events))
           ∙ ap (λ (c : Bool). now_in program.layout veil (onto events (cond c ([] ∷ slice_split is_retire rest) (onto_first event (slice_split is_retire rest)))) before) (sym done)
-      by false other =
-          followed-now rest (event ◂ older) (events ++ event ∷ []) before (stays event older events before other at)
+      by false other ih =
+          ih (event ◂ older) (events ++ event ∷ []) before (stays event older events before other at)
           ∙ ap (λ (parts : List (List Event)). now_in program.layout veil parts before) (sym (onto-more events event (slice_split is_retire rest) (some-parts rest)))
           ∙ ap (λ (c : Bool). now_in program.layout veil (onto events (cond c ([] ∷ slice_split is_retire rest) (onto_first event (slice_split is_retire rest)))) before) (sym other)
 
@@ -173,19 +175,21 @@ module _ (entry : ℕ) (veil : Veil) (program : LoadedProgram) where
       ∙ ap (λ (e : List Event). and_then (with_reads program.layout veil events before) (bus_step program.layout e)) at.since
       ∙ step-reads program.layout veil events before
       ∙ ap (λ (e : List Event). and_then before (step_over program.layout veil e)) (sym (append-nil events))
-  followed-next (event ∷ rest) older events before at = by (is_retire event) refl
+  followed-next (event ∷ rest) older events before at = by (is_retire event) refl (followed-next rest)
     where
       by : (b : Bool) → is_retire event ≡ b
+          → ((older : History) (events : List Event) (before : Next Ideal IdealEnd) → StandsIn entry veil program older events before
+          → bus_step_after entry veil program (followed older rest) ≡ steps_over program.layout veil (onto events (slice_split is_retire rest)) before)
           → bus_step_after entry veil program (followed (event ◂ older) rest)
           ≡ steps_over program.layout veil (onto events (slice_split is_retire (event ∷ rest))) before
-      by true done =
-          followed-next rest (event ◂ older) [] (and_then before (step_over program.layout veil events)) (retires event older events before done at)
+      by true done ih =
+          ih (event ◂ older) [] (and_then before (step_over program.layout veil events)) (retires event older events before done at)
           ∙ ap (λ (parts : List (List Event)). steps_over program.layout veil parts (and_then before (step_over program.layout veil events)))
-              (onto-none (slice_split is_retire rest) (some-parts rest))
+          (onto-none (slice_split is_retire rest) (some-parts rest))
           ∙ ap (λ (e : List Event). steps_over program.layout veil (e ∷ slice_split is_retire rest) before) (sym (append-nil events))
           ∙ ap (λ (c : Bool). steps_over program.layout veil (onto events (cond c ([] ∷ slice_split is_retire rest) (onto_first event (slice_split is_retire rest)))) before) (sym done)
-      by false other =
-          followed-next rest (event ◂ older) (events ++ event ∷ []) before (stays event older events before other at)
+      by false other ih =
+          ih (event ◂ older) (events ++ event ∷ []) before (stays event older events before other at)
           ∙ ap (λ (parts : List (List Event)). steps_over program.layout veil parts before) (sym (onto-more events event (slice_split is_retire rest) (some-parts rest)))
           ∙ ap (λ (c : Bool). steps_over program.layout veil (onto events (cond c ([] ∷ slice_split is_retire rest) (onto_first event (slice_split is_retire rest)))) before) (sym other)
 

@@ -1,5 +1,5 @@
 -- Worked traces of the bus machine. The words are by an assembler, and the answers were worked out by hand.
-use Rattle.std.proofs.Common.{◌≡◌, ℕ, ◌+◌, Bool, true, false, eqb, cond, List, [], ◌∷◌, ◌++◌, replicate, Option, Some, None, refl, lit≤}
+use Rattle.std.proofs.Common.{◌≡◌, ℕ, true, false, eqb, cond, List, [], ◌∷◌, ◌++◌, replicate, Option, Some, None, refl, lit≤}
 use Rattle.execution.specs.Run.{Next, Goes, Stops}
 use Rattle.aegis_num.specs.declared.Block.{Block}
 use Rattle.aegis_num.specs.declared.Place.TheVariants.{Tree, Log}

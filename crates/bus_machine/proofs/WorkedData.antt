@@ -1,5 +1,5 @@
 -- Worked numbers, and worked runs of which all is said that the bus machine says, or of which one part is wrong.
-use Rattle.std.proofs.Common.{◌≡◌, ℕ, refl, lit≤}
+use Rattle.std.proofs.Common.{◌≡◌, ◌+◌, refl, lit≤}
 use Rattle.regions.specs.declared.Layout.{Layout}
 use Rattle.regions.specs.Tree.{height_of}
 use Rattle.bus_machine.specs.EventBounds.{enough, pace, worst}

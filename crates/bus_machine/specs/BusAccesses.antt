@@ -73,8 +73,8 @@ UnlessRefused sight None answer old new P = P
 
 -- at an open address it does the first, and at another one the second
 abbrev pub ByClass : Bool → Type 0 → Type 0 → Type 0
-ByClass true open closed = open
-ByClass false open closed = closed
+ByClass true opened closed = opened
+ByClass false opened closed = closed
 
 -- a value of a block is read: each memory that agrees with the new lines has it
 abbrev pub ReadsBlock : {M : Type 0} → Veil → Sight M → ((ℕ → ℕ) → ℕ) → Result ℕ Stop → M → M → Type 0

@@ -1,7 +1,6 @@
 -- Promise: what the bus machine of a trace says of a run: which bytes were sent, how the run ended, and where checks and suspensions stand.
 -- It is said of each trace, whatever the bus answered.
-use Rattle.std.specs.Prelude.{◌≡◌, ℕ, ◌+◌, ◌-◌, ◌<◌, ◌≤◌, ◌==◌, ◌&&◌, nat_le, Bool, true, false, is_none, if◌then◌else◌, List, [], ◌++◌, take, length, count_by, Option, Some, None}
-use Rattle.std.specs.List.{list_any}
+use Rattle.std.specs.Prelude.{◌≡◌, ℕ, ◌+◌, ◌-◌, ◌<◌, ◌≤◌, ◌==◌, ◌&&◌, Bool, true, false, is_none, if◌then◌else◌, List, [], ◌++◌, take, length, count_by, Option, Some, None}
 use Rattle.execution.specs.Run.{Next, Goes, Stops, state_of}
 use Rattle.regions.specs.declared.Layout.{Layout}
 use Rattle.regions.specs.declared.Access.TheVariants.{Fetch}

@@ -1,7 +1,6 @@
 -- Promise: a step over a memory whose calls are told in that form is a step of the bus machine over the events that it appended.
 use Rattle.std.specs.Prelude.{◌≡◌, ℕ, true, IsTrue, List}
 use Rattle.std.specs.List.{list_all}
-use Rattle.execution.specs.Run.{Next}
 use Rattle.execution.specs.Traffic.{Traffic}
 use Rattle.regions.specs.Modes.{is_secure}
 use Rattle.off_chip.specs.declared.event.Event.{Event}
@@ -11,7 +10,7 @@ use Rattle.orbis_core.specs.FlatIsIdeal.{traffic_read}
 use Rattle.orbis_core.specs.Ideal.{Ideal}
 use Rattle.orbis_core.specs.OwnMemory.{Answers, HasInput}
 use Rattle.orbis_core.specs.Rows.{Machine, IsSettledEnd, Steps}
-use Rattle.bus_machine.specs.BusAccesses.{MeetsBus, Makes, Sight, is_access_event}
+use Rattle.bus_machine.specs.BusAccesses.{Makes, Sight, is_access_event}
 use Rattle.bus_machine.specs.BusMachine.{Veil, blocks_taken, bus_step}
 
 -- but for open words that were read and written, all went in and out that did before
