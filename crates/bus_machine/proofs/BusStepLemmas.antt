@@ -81,6 +81,7 @@ makes-both : {M : Type 0} (sight : Sight M) (first more : List Event) (old middl
 makes-both sight first more old middle new one two = record {
   trace = two.trace ∙ ap (λ (t : List Event). t ++ more) one.trace ∙ append_assoc (sight.trace old) first more;
   layout = two.layout ∙ one.layout;
+  veil = two.veil ∙ one.veil;
   mode = two.mode ∙ one.mode;
 }
 
@@ -100,30 +101,30 @@ stored_traffic true at value t = record { input = refl; bytes = refl; releases =
 stored_traffic false at value t = record { input = refl; bytes = refl; releases = refl; checks = refl; suspensions = refl }
 
 -- what the part of a step after the fetch does to the memory of the bus machine, from one that the lines agree with before that part
-record Done {M : Type 0} (veil : Veil) (sight : Sight M) (middle new : M) (events : List Event) (memory : ℕ → ℕ) (traffic : Traffic ℕ) (goal : Own → Type 0) : Type 0 where
+record Done {M : Type 0} (sight : Sight M) (middle new : M) (events : List Event) (memory : ℕ → ℕ) (traffic : Traffic ℕ) (goal : Own → Type 0) : Type 0 where
   after : Own
-  unheld : sight.Agrees middle (blocks_taken (sight.layout middle) veil events memory)
+  unheld : sight.Agrees middle (blocks_taken (sight.layout middle) (sight.veil middle) events memory)
   agrees : sight.Agrees new after.memory
   mode : after.mode ≡ sight.mode middle
   exchanged : SameButWords traffic after.traffic
   reached : goal after
 
 -- that part, after these events of the fetch
-record Second {M : Type 0} (veil : Veil) (sight : Sight M) (first : List Event) (middle new : M) (ended : StepEnd) (goal : Own → Own → Type 0) : Type 0 where
+record Second {M : Type 0} (sight : Sight M) (first : List Event) (middle new : M) (ended : StepEnd) (goal : Own → Own → Type 0) : Type 0 where
   events : List Event
   makes : Makes sight events middle new
   accesses : list_all is_access_event events ≡ true
   does : IsSettledEnd ended → (memory : ℕ → ℕ) (traffic : Traffic ℕ) → sight.Agrees middle memory
-      → Done veil sight middle new events memory traffic
-      (goal (own_at (sight.layout middle) (sight.mode middle) (first ++ events) (blocks_taken (sight.layout middle) veil events memory) traffic))
+      → Done sight middle new events memory traffic
+      (goal (own_at (sight.layout middle) (sight.mode middle) (first ++ events) (blocks_taken (sight.layout middle) (sight.veil middle) events memory) traffic))
 
-module _ {M : Type 0} (veil : Veil) (sight : Sight M) (first : List Event) (first_blocks : list_all is_block_event first ≡ true) (middle new : M) where
+module _ {M : Type 0} (sight : Sight M) (first : List Event) (first_blocks : list_all is_block_event first ≡ true) (middle new : M) where
   abbrev layout : Layout
   layout = sight.layout middle
 
   -- an access that failed
   failed : {T : Type 0} (answer : Result T Stop) (ended : StepEnd) (goal : Own → Own → Type 0) → ended ≡ end_after answer → Fails sight answer middle new
-      → Second veil sight first middle new ended goal
+      → Second sight first middle new ended goal
   failed (Ok value) ended goal is fails = absurd fails
   failed (Err (stop.Refused reason)) ended goal is fails = absurd fails
   failed (Err (stop.Tree event)) ended goal is fails = record {
@@ -140,7 +141,7 @@ module _ {M : Type 0} (veil : Veil) (sight : Sight M) (first : List Event) (firs
   }
 
   -- no access, or one that is refused
-  nothing : (ended : StepEnd) (goal : Own → Own → Type 0) → Exchanges sight [] middle new → ((own : Own) → goal own own) → Second veil sight first middle new ended goal
+  nothing : (ended : StepEnd) (goal : Own → Own → Type 0) → Exchanges sight [] middle new → ((own : Own) → goal own own) → Second sight first middle new ended goal
   nothing ended goal made holds = record {
     events = [];
     makes = made.makes;
@@ -163,8 +164,8 @@ module _ {M : Type 0} (veil : Veil) (sight : Sight M) (first : List Event) (firs
     LoadGoal r b answer own after = OwnLoad r b (came own) (value own.memory) own answer after
 
     load-case : (r : Option Why) (b : Bool) (answer : Result ℕ Stop) → ended ≡ end_after answer
-        → UnlessRefused sight r answer middle new (ByClass b (ReadsOpen sight start of_word answer middle new) (ReadsBlock veil sight value answer middle new))
-        → Second veil sight first middle new ended (LoadGoal r b answer)
+        → UnlessRefused sight r answer middle new (ByClass b (ReadsOpen sight start of_word answer middle new) (ReadsBlock sight value answer middle new))
+        → Second sight first middle new ended (LoadGoal r b answer)
     load-case (Some reason) b answer is row = nothing ended (LoadGoal (Some reason) b answer) row.1 (λ own. (row.0, refl))
     load-case None true answer is row = record {
       events = WordRead Secure start row.0 ∷ [];
@@ -189,7 +190,7 @@ module _ {M : Type 0} (veil : Veil) (sight : Sight M) (first : List Event) (firs
       makes = row.1.makes;
       accesses = blocks-access row.0 row.1.blocks;
       does = λ settled memory traffic agrees.
-          let taken : ℕ → ℕ = blocks_taken layout veil row.0 memory in
+          let taken : ℕ → ℕ = blocks_taken layout (sight.veil middle) row.0 memory in
           let own : Own = own_at layout (sight.mode middle) (first ++ row.0) taken traffic in
           record {
             after = own;
@@ -206,7 +207,7 @@ module _ {M : Type 0} (veil : Veil) (sight : Sight M) (first : List Event) (firs
   record StoresOpen (answer : Result (Unit {0}) Stop) : Type 0 where
     events : List Event
     accesses : list_all is_access_event events ≡ true
-    no_block : (memory : ℕ → ℕ) → blocks_taken layout veil events memory ≡ memory
+    no_block : (memory : ℕ → ℕ) → blocks_taken layout (sight.veil middle) events memory ≡ memory
     answered : answer ≡ Ok tt
     made : Exchanges sight events middle new
 
@@ -223,15 +224,15 @@ module _ {M : Type 0} (veil : Veil) (sight : Sight M) (first : List Event) (firs
 
     store-case : (r : Option Why) (b : Bool) (answer : Result (Unit {0}) Stop) → is_among shared_loose layout at ≡ b → ended ≡ end_after answer
         → UnlessRefused sight r answer middle new
-        (ByClass b (StoresOpen answer) (PutsInBlock veil sight (λ memory. updated memory (word_start at) (word memory)) answer middle new))
-        → Second veil sight first middle new ended (StoreGoal r answer)
+        (ByClass b (StoresOpen answer) (PutsInBlock sight (λ memory. updated memory (word_start at) (word memory)) answer middle new))
+        → Second sight first middle new ended (StoreGoal r answer)
     store-case (Some reason) b answer class is row = nothing ended (StoreGoal (Some reason) answer) row.1 (λ own. (row.0, refl))
     store-case None true answer class is row = record {
       events = row.events;
       makes = row.made.makes;
       accesses = row.accesses;
       does = λ settled memory traffic agrees.
-          let taken : ℕ → ℕ = blocks_taken layout veil row.events memory in
+          let taken : ℕ → ℕ = blocks_taken layout (sight.veil middle) row.events memory in
           let own : Own = own_at layout (sight.mode middle) (first ++ row.events) taken traffic in
           let Q : (ℕ → ℕ) → Type 0 = λ m. sight.Agrees middle m in
           let R : (ℕ → ℕ) → Type 0 = λ m. sight.Agrees new m in
@@ -250,7 +251,7 @@ module _ {M : Type 0} (veil : Veil) (sight : Sight M) (first : List Event) (firs
       makes = row.1.makes;
       accesses = blocks-access row.0 row.1.blocks;
       does = λ settled memory traffic agrees.
-          let taken : ℕ → ℕ = blocks_taken layout veil row.0 memory in
+          let taken : ℕ → ℕ = blocks_taken layout (sight.veil middle) row.0 memory in
           let own : Own = own_at layout (sight.mode middle) (first ++ row.0) taken traffic in
           let S : Bool → Type 0 = λ b. sight.Agrees new (if b then taken else updated taken (word_start at) (word taken)) in
           record {
@@ -271,16 +272,17 @@ none-made {M} sight middle new same = record {
   makes = record {
     trace = ap (λ (m : M). sight.trace m) same ∙ sym (append-nil (sight.trace middle));
     layout = ap (λ (m : M). sight.layout m) same;
+    veil = ap (λ (m : M). sight.veil m) same;
     mode = ap (λ (m : M). sight.mode m) same;
   };
   agrees = λ memory agrees. let P : M → Type 0 = λ m. sight.Agrees m memory in subst P (sym same) agrees;
 }
 
-map-goal : {M : Type 0} (veil : Veil) (sight : Sight M) (first : List Event) (middle new : M) (ended : StepEnd) (goal other : Own → Own → Type 0)
+map-goal : {M : Type 0} (sight : Sight M) (first : List Event) (middle new : M) (ended : StepEnd) (goal other : Own → Own → Type 0)
     → ((events : List Event) (memory : ℕ → ℕ) (traffic : Traffic ℕ) (after : Own) → let own : Own = own_at (sight.layout middle) (sight.mode middle) events memory traffic in
     goal own after → other own after)
-    → Second veil sight first middle new ended goal → Second veil sight first middle new ended other
-map-goal veil sight first middle new ended goal other f second = record {
+    → Second sight first middle new ended goal → Second sight first middle new ended other
+map-goal sight first middle new ended goal other f second = record {
   events = second.events;
   makes = second.makes;
   accesses = second.accesses;
@@ -292,7 +294,7 @@ map-goal veil sight first middle new ended goal other f second = record {
         agrees = done.agrees;
         mode = done.mode;
         exchanged = done.exchanged;
-        reached = f (first ++ second.events) (blocks_taken (sight.layout middle) veil second.events memory) traffic done.after done.reached;
+        reached = f (first ++ second.events) (blocks_taken (sight.layout middle) (sight.veil middle) second.events memory) traffic done.after done.reached;
       };
 }
 
@@ -300,18 +302,18 @@ byte-comes : (at : ℕ) (own : Layout) (mode : Mode) (events : List Event) (memo
     → (own_at own mode events memory traffic).outside.byte at traffic ≡ Some (byte_in word at)
 byte-comes at own mode events memory traffic word is = ap (λ (o : Option ℕ). option_map (λ w. byte_in w at) o) is
 
-module _ {M : Type 0} (veil : Veil) (sight : Sight M) (accesses : Accesses M) (meets : MeetsBus veil sight accesses)
+module _ {M : Type 0} (sight : Sight M) (accesses : Accesses M) (meets : MeetsBus sight accesses)
     (first : List Event) (first_blocks : list_all is_block_event first ≡ true) (old new : Machine M) (ended : StepEnd) (secure : IsTrue (is_secure (sight.mode old.memory))) where
   -- the memory after the fetch, and what the machine's own memory does from it
   abbrev middle : M
   middle = old.memory
 
   abbrev Half : (Own → Own → Type 0) → Type 0
-  Half goal = Second veil sight first middle new.memory ended goal
+  Half goal = Second sight first middle new.memory ended goal
 
   leaves : (end : StepEnd) (core : Processor) (port : Port) → Leaves end core port old ended new → Half (λ own after. Leaves end core port (over own old) ended (over after new))
   leaves end core port left =
-      nothing veil sight first first_blocks middle new.memory ended (λ own after. Leaves end core port (over own old) ended (over after new)) (none-made sight middle new.memory left.memory)
+      nothing sight first first_blocks middle new.memory ended (λ own after. Leaves end core port (over own old) ended (over after new)) (none-made sight middle new.memory left.memory)
       (λ own. record { ends = left.ends; core = left.core; memory = refl; port = left.port })
 
   effects : (asked : Effect) → Carries accesses asked old ended new → Half (λ own after. Carries own_accesses asked (over own old) ended (over after new))
@@ -325,41 +327,41 @@ module _ {M : Type 0} (veil : Veil) (sight : Sight M) (accesses : Accesses M) (m
   effects (effect.LoadWord d at) row =
       let r : Option Why = word_refusal (sight.layout middle) (sight.mode middle) Read at in
       let b : Bool = is_among shared_loose (sight.layout middle) at in
-      map-goal veil sight first middle new.memory ended
+      map-goal sight first middle new.memory ended
       (λ own after. OwnLoad r b (own.outside.word at own.traffic) (own.memory at) own row.answer after)
       (λ own after. Carries own_accesses (effect.LoadWord d at) (over own old) ended (over after new))
       (λ events memory traffic after done. record { answer = row.answer; loaded = done; ends = row.ends; core = row.core; port = row.port })
-      (load-case veil sight first first_blocks middle new.memory ended at (λ word. word) (λ memory. memory at) (λ own. own.outside.word at own.traffic)
+      (load-case sight first first_blocks middle new.memory ended at (λ word. word) (λ memory. memory at) (λ own. own.outside.word at own.traffic)
       (λ own mode events memory traffic word is. is) r b row.answer row.ends (meets.load_word middle new.memory at row.answer secure row.loaded))
   effects (effect.LoadByte d at) row =
       let r : Option Why = byte_refusal (sight.layout middle) (sight.mode middle) Read at in
       let b : Bool = is_among shared_loose (sight.layout middle) at in
-      map-goal veil sight first middle new.memory ended
+      map-goal sight first middle new.memory ended
       (λ own after. OwnLoad r b (own.outside.byte at own.traffic) (byte_in (own.memory (word_start at)) at) own row.answer after)
       (λ own after. Carries own_accesses (effect.LoadByte d at) (over own old) ended (over after new))
       (λ events memory traffic after done. record { answer = row.answer; loaded = done; ends = row.ends; core = row.core; port = row.port })
-      (load-case veil sight first first_blocks middle new.memory ended (word_start at) (λ word. byte_in word at) (λ memory. byte_in (memory (word_start at)) at) (λ own. own.outside.byte at own.traffic)
+      (load-case sight first first_blocks middle new.memory ended (word_start at) (λ word. byte_in word at) (λ memory. byte_in (memory (word_start at)) at) (λ own. own.outside.byte at own.traffic)
       (byte-comes at) r b row.answer row.ends (meets.load_byte middle new.memory at row.answer secure row.loaded))
   effects (effect.StoreWord at word) row =
       let r : Option Why = word_refusal (sight.layout middle) (sight.mode middle) Write at in
       let b : Bool = is_among shared_loose (sight.layout middle) at in
-      map-goal veil sight first middle new.memory ended
+      map-goal sight first middle new.memory ended
       (λ own after. OwnStore r at word word own row.answer after)
       (λ own after. Carries own_accesses (effect.StoreWord at word) (over own old) ended (over after new))
       (λ events memory traffic after done. record { answer = row.answer; stored = done; ends = row.ends; core = row.core; port = row.port })
-      (store-case veil sight first first_blocks middle new.memory ended at word (λ memory. word) r b row.answer refl row.ends
-      (store-opens veil sight first first_blocks middle new.memory _ _ _ r b row.answer
+      (store-case sight first first_blocks middle new.memory ended at word (λ memory. word) r b row.answer refl row.ends
+      (store-opens sight first first_blocks middle new.memory _ _ _ r b row.answer
       (λ made. record { events = WordWrite Secure at word ∷ []; accesses = refl; no_block = λ memory. refl; answered = made.0; made = made.1 })
       (meets.store_word middle new.memory at word row.answer secure row.stored)))
   effects (effect.StoreByte at byte) row =
       let r : Option Why = byte_refusal (sight.layout middle) (sight.mode middle) Write at in
       let b : Bool = is_among shared_loose (sight.layout middle) at in
-      map-goal veil sight first middle new.memory ended
+      map-goal sight first middle new.memory ended
       (λ own after. OwnStore r at byte (with_byte (own.memory (word_start at)) at byte) own row.answer after)
       (λ own after. Carries own_accesses (effect.StoreByte at byte) (over own old) ended (over after new))
       (λ events memory traffic after done. record { answer = row.answer; stored = done; ends = row.ends; core = row.core; port = row.port })
-      (store-case veil sight first first_blocks middle new.memory ended at byte (λ memory. with_byte (memory (word_start at)) at byte) r b row.answer refl row.ends
-      (store-opens veil sight first first_blocks middle new.memory _ _ _ r b row.answer
+      (store-case sight first first_blocks middle new.memory ended at byte (λ memory. with_byte (memory (word_start at)) at byte) r b row.answer refl row.ends
+      (store-opens sight first first_blocks middle new.memory _ _ _ r b row.answer
       (λ made. record {
         events = WordRead Secure (word_start at) made.0 ∷ WordWrite Secure (word_start at) (with_byte made.0 at byte) ∷ [];
         accesses = refl;
@@ -375,10 +377,13 @@ module _ {M : Type 0} (veil : Veil) (sight : Sight M) (accesses : Accesses M) (m
 
 -- ---- the step
 
-module _ {M : Type 0} (veil : Veil) (sight : Sight M) (accesses : Accesses M) (meets : MeetsBus veil sight accesses)
+module _ {M : Type 0} (sight : Sight M) (accesses : Accesses M) (meets : MeetsBus sight accesses)
     (old new : Machine M) (ended : StepEnd) (secure : IsTrue (is_secure (sight.mode old.memory))) where
   abbrev old_layout : Layout
   old_layout = sight.layout old.memory
+
+  abbrev old_veil : Veil
+  old_veil = sight.veil old.memory
 
   abbrev old_mode : Mode
   old_mode = sight.mode old.memory
@@ -389,7 +394,7 @@ module _ {M : Type 0} (veil : Veil) (sight : Sight M) (accesses : Accesses M) (m
     agrees : sight.Agrees new.memory after.memory
     mode_stays : after.mode ≡ old_mode
     exchanged : SameButWords traffic after.traffic
-    steps : Steps own_accesses (over (own_at old_layout old_mode events (blocks_taken old_layout veil events memory) traffic) old) ended (over after new)
+    steps : Steps own_accesses (over (own_at old_layout old_mode events (blocks_taken old_layout old_veil events memory) traffic) old) ended (over after new)
 
   record OwnSteps : Type 0 where
     events : List Event
@@ -399,8 +404,8 @@ module _ {M : Type 0} (veil : Veil) (sight : Sight M) (accesses : Accesses M) (m
 
   -- the fetch was stopped
   stopped : (reason : Stop) (middle : M) (events : List Event) → Makes sight events old.memory middle → list_all is_block_event events ≡ true → IsStopped reason (record old { memory = middle }) ended new
-      → ((memory : ℕ → ℕ) (traffic : Traffic ℕ) → IsSettledEnd ended → sight.Agrees old.memory memory → (sight.Agrees middle (blocks_taken old_layout veil events memory))
-      × Steps own_accesses (over (own_at old_layout old_mode events (blocks_taken old_layout veil events memory) traffic) old) ended (over (own_at old_layout old_mode events (blocks_taken old_layout veil events memory) traffic) new))
+      → ((memory : ℕ → ℕ) (traffic : Traffic ℕ) → IsSettledEnd ended → sight.Agrees old.memory memory → (sight.Agrees middle (blocks_taken old_layout old_veil events memory))
+      × Steps own_accesses (over (own_at old_layout old_mode events (blocks_taken old_layout old_veil events memory) traffic) old) ended (over (own_at old_layout old_mode events (blocks_taken old_layout old_veil events memory) traffic) new))
       → OwnSteps
   stopped reason middle events made blocks row holds = record {
     events = events;
@@ -408,12 +413,12 @@ module _ {M : Type 0} (veil : Veil) (sight : Sight M) (accesses : Accesses M) (m
     each = blocks-access events blocks;
     does = λ settled memory traffic agrees.
         let both = holds memory traffic settled agrees in
-        let P : M → Type 0 = λ m. sight.Agrees m (blocks_taken old_layout veil events memory) in
-        record { after = own_at old_layout old_mode events (blocks_taken old_layout veil events memory) traffic; agrees = subst P (sym row.memory) both.0; mode_stays = refl; exchanged = same_traffic traffic; steps = both.1 };
+        let P : M → Type 0 = λ m. sight.Agrees m (blocks_taken old_layout old_veil events memory) in
+        record { after = own_at old_layout old_mode events (blocks_taken old_layout old_veil events memory) traffic; agrees = subst P (sym row.memory) both.0; mode_stays = refl; exchanged = same_traffic traffic; steps = both.1 };
   }
 
   by-answer : (r : Option Why) → r ≡ word_refusal old_layout old_mode Fetch old.core.pc → (answer : Result ℕ Stop) (middle : M)
-      → UnlessRefused sight r answer old.memory middle (ReadsBlock veil sight (λ memory. memory old.core.pc) answer old.memory middle)
+      → UnlessRefused sight r answer old.memory middle (ReadsBlock sight (λ memory. memory old.core.pc) answer old.memory middle)
       → GoesOnAfter accesses answer (record old { memory = middle }) ended new → OwnSteps
   by-answer (Some reason) is answer middle row goes_on =
       let P : Result ℕ Stop → Type 0 = λ a. GoesOnAfter accesses a (record old { memory = middle }) ended new in
@@ -430,23 +435,25 @@ module _ {M : Type 0} (veil : Veil) (sight : Sight M) (accesses : Accesses M) (m
   by-answer None is (Ok word) middle row goes_on =
       let moves = row.1 in
       let S : Mode → Type 0 = λ m. IsTrue (is_secure m) in
-      let second = executes veil sight accesses meets row.0 moves.blocks (record old { memory = middle }) new ended (subst S (sym moves.makes.mode) secure) (instruction_in word) goes_on in
+      let second = executes sight accesses meets row.0 moves.blocks (record old { memory = middle }) new ended (subst S (sym moves.makes.mode) secure) (instruction_in word) goes_on in
       let events : List Event = row.0 ++ second.events in
       record {
         events = events;
         makes = makes-both sight row.0 second.events old.memory middle new.memory moves.makes second.makes;
         each = access-append row.0 second.events (blocks-access row.0 moves.blocks) second.accesses;
         does = λ settled memory traffic agrees.
-            let first : ℕ → ℕ = blocks_taken old_layout veil row.0 memory in
+            let first : ℕ → ℕ = blocks_taken old_layout old_veil row.0 memory in
             let done = second.does settled first traffic (moves.agrees memory agrees) in
-            let all : ℕ → ℕ = blocks_taken old_layout veil events memory in
-            let taken : blocks_taken (sight.layout middle) veil second.events first ≡ all =
-            ap (λ (l : Layout). blocks_taken l veil second.events first) moves.makes.layout ∙ sym (taken-append old_layout veil row.0 second.events memory) in
-            let own : own_at (sight.layout middle) (sight.mode middle) events (blocks_taken (sight.layout middle) veil second.events first) traffic ≡ own_at old_layout old_mode events all traffic =
-            ap (λ (l : Layout). own_at l (sight.mode middle) events (blocks_taken (sight.layout middle) veil second.events first) traffic) moves.makes.layout
-            ∙ ap (λ (m : Mode). own_at old_layout m events (blocks_taken (sight.layout middle) veil second.events first) traffic) moves.makes.mode
+            let all : ℕ → ℕ = blocks_taken old_layout old_veil events memory in
+            let taken : blocks_taken (sight.layout middle) (sight.veil middle) second.events first ≡ all =
+            ap (λ (l : Layout). blocks_taken l (sight.veil middle) second.events first) moves.makes.layout
+            ∙ ap (λ (v : Veil). blocks_taken old_layout v second.events first) moves.makes.veil
+            ∙ sym (taken-append old_layout old_veil row.0 second.events memory) in
+            let own : own_at (sight.layout middle) (sight.mode middle) events (blocks_taken (sight.layout middle) (sight.veil middle) second.events first) traffic ≡ own_at old_layout old_mode events all traffic =
+            ap (λ (l : Layout). own_at l (sight.mode middle) events (blocks_taken (sight.layout middle) (sight.veil middle) second.events first) traffic) moves.makes.layout
+            ∙ ap (λ (m : Mode). own_at old_layout m events (blocks_taken (sight.layout middle) (sight.veil middle) second.events first) traffic) moves.makes.mode
             ∙ ap (λ (m : ℕ → ℕ). own_at old_layout old_mode events m traffic) taken in
-            let value : all old.core.pc ≡ word = ap (λ (m : ℕ → ℕ). m old.core.pc) (sym taken) ∙ row.2 (blocks_taken (sight.layout middle) veil second.events first) done.unheld in
+            let value : all old.core.pc ≡ word = ap (λ (m : ℕ → ℕ). m old.core.pc) (sym taken) ∙ row.2 (blocks_taken (sight.layout middle) (sight.veil middle) second.events first) done.unheld in
             let Q : Own → Type 0 = λ o. Executes own_accesses (instruction_in word) (over o old) ended (over done.after new) in
             record {
               after = done.after;
@@ -470,7 +477,7 @@ module _ {M : Type 0} (veil : Veil) (sight : Sight M) (accesses : Accesses M) (m
   own-steps : Steps accesses old ended new → OwnSteps
   own-steps step = by-answer (word_refusal old_layout old_mode Fetch old.core.pc) refl step.answer step.middle (meets.fetch old.memory step.middle old.core.pc step.answer secure step.fetched) step.goes_on
 
-  pub on-bus : Steps accesses old ended new → StepsOnBus veil sight old new ended
+  pub on-bus : Steps accesses old ended new → StepsOnBus sight old new ended
   on-bus step =
       let own = own-steps step in
       record {
@@ -479,7 +486,7 @@ module _ {M : Type 0} (veil : Veil) (sight : Sight M) (accesses : Accesses M) (m
         accesses = own.each;
         goes_along = λ settled memory traffic agrees input.
             let done = own.does settled memory traffic agrees in
-            let start : Machine Own = over (own_at old_layout old_mode own.events (blocks_taken old_layout veil own.events memory) traffic) old in
+            let start : Machine Own = over (own_at old_layout old_mode own.events (blocks_taken old_layout old_veil own.events memory) traffic) old in
             let facts = step-facts start (over done.after new) ended input done.steps in
             record {
               after = ideal_of (over done.after new);
@@ -492,5 +499,5 @@ module _ {M : Type 0} (veil : Veil) (sight : Sight M) (accesses : Accesses M) (m
             };
       }
 
-pub step-on-bus : {M : Type 0} (veil : Veil) (sight : Sight M) (accesses : Accesses M) → MeetsBus veil sight accesses → StepIsOnBus veil sight accesses
-step-on-bus veil sight accesses meets old new ended secure step = on-bus veil sight accesses meets old new ended secure step
+pub step-on-bus : {M : Type 0} (sight : Sight M) (accesses : Accesses M) → MeetsBus sight accesses → StepIsOnBus sight accesses
+step-on-bus sight accesses meets old new ended secure step = on-bus sight accesses meets old new ended secure step

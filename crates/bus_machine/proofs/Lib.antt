@@ -1,4 +1,5 @@
 pub mod BusStepLemmas
 pub mod SegmentLemmas
 mod Worked
-mod WorkedData
+mod WorkedBounds
+mod WorkedRuns

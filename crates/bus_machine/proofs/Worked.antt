@@ -19,7 +19,7 @@ use Rattle.orbis_core.specs.Processor.{register}
 use Rattle.bus_machine.specs.BusMachine.{LoadedProgram, Veil, bus_machine, bus_step_after, is_data}
 
 -- a verified block, a private one, a code block and a log block: the tree blocks 1, 2 and 3 under the root, and one of the log
-abbrev layout : Layout
+abbrev pub layout : Layout
 layout = record {
   verified = 1;
   private = 1;
@@ -51,21 +51,21 @@ unfolding height_of
 data_blocks = (refl, refl, refl, refl, refl, refl)
 
 -- four words of code, filled up with instructions that do nothing
-abbrev code_of : List ℕ → List ℕ
+abbrev pub code_of : List ℕ → List ℕ
 code_of words = bytes_of (words ++ replicate 12 0x15000000)
 
-abbrev program : List ℕ → List ℕ → LoadedProgram
+abbrev pub program : List ℕ → List ℕ → LoadedProgram
 program words input = record { layout = layout; statics = code_of words; entry = 0; input = input }
 
 -- a veil that gives private blocks their stamp as each byte
-abbrev veil : Veil
+abbrev pub veil : Veil
 veil n stamp payload = cond (eqb n 2) (replicate 64 stamp) payload
 
-abbrev block : ℕ → List ℕ → Block
+abbrev pub block : ℕ → List ℕ → Block
 block stamp payload = record { payload = payload; stamp = stamp }
 
 -- entering takes seven events here; what it reads is no part of the machine
-abbrev entering : List Event
+abbrev pub entering : List Event
 entering =
     Note marks.Enter
     ∷ BlockWrite (Tree 1) (block 1 [])
@@ -76,7 +76,7 @@ entering =
     ∷ BlockWrite (Log 0) (block 5 [])
     ∷ []
 
-abbrev done : Event
+abbrev pub done : Event
 done = Note (marks.Retire Secure)
 
 -- what is shown of a machine: its end, if it has ended, its program counter, registers 3 and 11, the bytes that it released, the input left, and how many
@@ -100,7 +100,7 @@ abbrev next_after : List ℕ → List ℕ → List Event → Shown
 next_after words input events = shown (bus_step_after 7 veil (program words input) (history (entering ++ events)))
 
 -- l.addi r3,r0,72; release; exit
-abbrev hello : List ℕ
+abbrev pub hello : List ℕ
 hello = 0x9c600048 ∷ 0x70000006 ∷ 0x70000001 ∷ 0x15000000 ∷ []
 
 -- the same with 73
@@ -133,7 +133,7 @@ unfolding instruction_in signed class_at height_of
 later_read = refl
 
 -- private on; l.movhi r4,0x1000; l.lwz r3,64(r4): a private block stands without its pad
-abbrev private_load : List ℕ
+abbrev pub private_load : List ℕ
 private_load = 0x70000004 ∷ 0x18801000 ∷ 0x84640040 ∷ 0x15000000 ∷ []
 
 -- l.movhi r4,0x1000; l.lwz r3,0(r4): a verified one as it is

@@ -11,23 +11,20 @@ pub fn bus_in_steps()
 pub trait OverBus {
     ghost use Rattle.orbis_core.specs.Accesses.{Accesses};
     ghost use Rattle.bus_machine.specs.BusAccesses.{MeetsBus, Sight};
-    ghost use Rattle.bus_machine.specs.BusMachine.{Veil};
 
     /// The memory, and what its calls do.
     ghost Lines: { Type 0 };
 
     ghost calls: { Accesses Lines };
 
-    /// How its payloads stand off chip, and how it is seen.
-    ghost veil: { Veil };
-
+    /// How it is seen.
     ghost sight: { Sight Lines };
 
     /// Each call keeps to the form.
-    ghost meets: { MeetsBus veil sight calls };
+    ghost meets: { MeetsBus sight calls };
 }
 
 /// A step over such a memory is a step of the bus machine over the events that it appended.
 pub fn step_is_on_bus<C: OverBus>()
-    ensures law { StepIsOnBus C.veil C.sight C.calls }
+    ensures law { StepIsOnBus C.sight C.calls }
 {}

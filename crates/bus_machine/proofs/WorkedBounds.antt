@@ -1,4 +1,4 @@
--- Worked numbers, and worked runs of which all is said that the bus machine says, or of which one part is wrong.
+-- Worked numbers.
 use Rattle.std.proofs.Common.{◌≡◌, ◌+◌, refl, lit≤}
 use Rattle.regions.specs.declared.Layout.{Layout}
 use Rattle.regions.specs.Tree.{height_of}
