@@ -1,5 +1,5 @@
 -- A step over a memory whose calls are told in the form of a bus is a step of the bus machine over the events that it appended.
-use Rattle.std.proofs.Common.{◌≡◌, ℕ, Bool, true, false, cond, List, [], ◌∷◌, ◌++◌, Option, Some, None, option_map, Result, Ok, Err, refl, sym, ap, ◌∙◌, subst}
+use Rattle.std.proofs.Common.{◌≡◌, ℕ, Bool, true, false, cond, List, [], ◌∷◌, ◌++◌, Option, Some, None, is_some, option_map, Result, Ok, Err, refl, sym, ap, ◌∙◌, subst}
 use Rattle.std.specs.Prelude.{IsTrue, if◌then◌else◌}
 use Rattle.std.specs.List.{list_all}
 use Rattle.std.proofs.lemmas.Bool.{and_parts, and_from, eq-eqb}
@@ -24,11 +24,13 @@ use Rattle.orbis_core.specs.declared.Stop.TheVariants as stop
 use Rattle.orbis_core.specs.declared.Why.{Why}
 use Rattle.orbis_core.specs.declared.Port.{Port}
 use Rattle.orbis_core.specs.declared.StepEnd.{StepEnd}
+use Rattle.orbis_core.specs.declared.StepEnd.TheVariants as end
+use Rattle.orbis_core.specs.declared.Why.TheVariants as why
 use Rattle.orbis_core.specs.Accesses.{Accesses}
 use Rattle.orbis_core.specs.ByteOrder.{byte_in, updated, with_byte, word_start}
 use Rattle.orbis_core.specs.Effects.{effect_of}
 use Rattle.orbis_core.specs.Ideal.{from_reads, is_among, memory_stored, traffic_stored}
-use Rattle.orbis_core.specs.OwnMemory.{Own, OwnLoad, OwnStore, ideal_of, own_accesses}
+use Rattle.orbis_core.specs.OwnMemory.{Own, OwnLoad, OwnStore, ideal_of, own_accesses, secure_of_end}
 use Rattle.orbis_core.specs.Processor.{Processor}
 use Rattle.orbis_core.specs.Refusals.{answered, word_refusal, byte_refusal}
 use Rattle.orbis_core.specs.Rows.{Machine, Carries, Executes, GoesOnAfter, IsSettledEnd, IsStopped, Leaves, Steps, end_after, over}
@@ -375,7 +377,76 @@ module _ {M : Type 0} (sight : Sight M) (accesses : Accesses M) (meets : MeetsBu
   executes None row = leaves _ _ _ row
   executes (Some instruction) row = effects (effect_of instruction old.core) row
 
+-- ---- secure instructions
+
+-- a step of one accesses no memory but for the fetch, so it is one over another memory with the word that was fetched
+module _ {M : Type 0} (old new : Machine M) (ended : StepEnd) (secure : is_some (secure_of_end ended) ≡ true) (own after other : Own)
+    (layout : other.layout ≡ own.layout) (mode : other.mode ≡ own.mode) (word : other.memory old.core.pc ≡ own.memory old.core.pc) where
+  record Elsewhere : Type 0 where
+    stays : after ≡ own
+    steps : Steps own_accesses (over other old) ended (over other new)
+
+  not-next : ended ≡ end.Next → ⊥
+  not-next is = let e : false ≡ true = ap (λ (x : StepEnd). is_some (secure_of_end x)) (sym is) ∙ secure in cc
+
+  not-stopped : (reason : Stop) → ended ≡ end.Stopped reason → ⊥
+  not-stopped reason is = let e : false ≡ true = ap (λ (x : StepEnd). is_some (secure_of_end x)) (sym is) ∙ secure in cc
+
+  not-after : {T : Type 0} (answer : Result T Stop) → ended ≡ end_after answer → ⊥
+  not-after (Ok value) is = not-next is
+  not-after (Err reason) is = not-stopped reason is
+
+  secure-row : (asked : Effect) → Carries own_accesses asked (over own old) ended (over after new)
+      → (after ≡ own) × Carries own_accesses asked (over other old) ended (over other new)
+  secure-row effect.Proceed row = absurd (not-next row.ends)
+  secure-row (effect.Write d value) row = absurd (not-next row.ends)
+  secure-row (effect.Compare flag) row = absurd (not-next row.ends)
+  secure-row (effect.Jump target) row = absurd (not-next row.ends)
+  secure-row (effect.Link target) row = absurd (not-next row.ends)
+  secure-row effect.DivideByZero row = absurd (not-stopped (stop.Refused why.Divide) row.ends)
+  secure-row (effect.LoadWord d at) row = absurd (not-after row.answer row.ends)
+  secure-row (effect.LoadByte d at) row = absurd (not-after row.answer row.ends)
+  secure-row (effect.StoreWord at value) row = absurd (not-after row.answer row.ends)
+  secure-row (effect.StoreByte at byte) row = absurd (not-after row.answer row.ends)
+  secure-row (effect.Secure f) row = (row.memory, record { ends = row.ends; core = row.core; memory = refl; port = row.port })
+
+  secure-word : (found : Option Instr) → Executes own_accesses found (over own old) ended (over after new)
+      → (after ≡ own) × Executes own_accesses found (over other old) ended (over other new)
+  secure-word None row = absurd (not-stopped (stop.Refused why.Illegal) row.ends)
+  secure-word (Some instruction) row = secure-row (effect_of instruction old.core) row
+
+  secure-answer : (r : Option Why) → word_refusal own.layout own.mode Fetch old.core.pc ≡ r → (answer : Result ℕ Stop) → answer ≡ answered r (own.memory old.core.pc)
+      → GoesOnAfter own_accesses answer (over own old) ended (over after new) → Elsewhere
+  secure-answer (Some reason) none answer is row =
+      let P : Result ℕ Stop → Type 0 = λ a. GoesOnAfter own_accesses a (over own old) ended (over after new) in
+      let stopped : IsStopped (stop.Refused reason) (over own old) ended (over after new) = subst P is row in
+      absurd (not-stopped (stop.Refused reason) stopped.ends)
+  secure-answer None none answer is row =
+      let P : Result ℕ Stop → Type 0 = λ a. GoesOnAfter own_accesses a (over own old) ended (over after new) in
+      let both = secure-word (instruction_in (own.memory old.core.pc)) (subst P is row) in
+      let same : word_refusal other.layout other.mode Fetch old.core.pc ≡ None =
+      ap (λ (l : Layout). word_refusal l other.mode Fetch old.core.pc) layout ∙ ap (λ (m : Mode). word_refusal own.layout m Fetch old.core.pc) mode ∙ none in
+      let Q : ℕ → Type 0 = λ w. Executes own_accesses (instruction_in w) (over other old) ended (over other new) in
+      record {
+        stays = both.0;
+        steps = record {
+          answer = Ok (other.memory old.core.pc);
+          middle = other;
+          fetched = (ap (λ r. answered r (other.memory old.core.pc)) (sym same), refl);
+          goes_on = subst Q (sym word) both.1;
+        };
+      }
+
+  elsewhere : Steps own_accesses (over own old) ended (over after new) → Elsewhere
+  elsewhere step =
+      let P : Own → Type 0 = λ m. GoesOnAfter own_accesses step.answer (over m old) ended (over after new) in
+      secure-answer (word_refusal own.layout own.mode Fetch old.core.pc) refl step.answer step.fetched.0 (subst P step.fetched.1 step.goes_on)
+
 -- ---- the step
+
+settled-secure : (ended : StepEnd) → is_some (secure_of_end ended) ≡ true → IsSettledEnd ended
+settled-secure (end.Stopped reason) secured = let e : false ≡ true = secured in cc
+settled-secure ended secured = tt
 
 module _ {M : Type 0} (sight : Sight M) (accesses : Accesses M) (meets : MeetsBus sight accesses)
     (old new : Machine M) (ended : StepEnd) (secure : IsTrue (is_secure (sight.mode old.memory))) where
@@ -497,6 +568,14 @@ module _ {M : Type 0} (sight : Sight M) (accesses : Accesses M) (meets : MeetsBu
               port = facts.port;
               answers = facts.answers;
             };
+        goes_later = λ secured memory traffic agrees input more word.
+            let done = own.does (settled-secure ended secured) memory traffic agrees in
+            let with_these : Own = own_at old_layout old_mode own.events (blocks_taken old_layout old_veil own.events memory) traffic in
+            let with_more : Own = own_at old_layout old_mode (own.events ++ more) (blocks_taken old_layout old_veil (own.events ++ more) memory) traffic in
+            let other = elsewhere old new ended secured with_these done.after with_more refl refl word done.steps in
+            let facts = step-facts (over with_more old) (over with_more new) ended input other.steps in
+            let P : Own → Type 0 = λ m. sight.Agrees new.memory m.memory in
+            record { port = facts.port; agrees = subst P other.stays done.agrees; answers = facts.answers };
       }
 
 pub step-on-bus : {M : Type 0} (sight : Sight M) (accesses : Accesses M) → MeetsBus sight accesses → StepIsOnBus sight accesses

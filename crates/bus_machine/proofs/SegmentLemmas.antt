@@ -48,7 +48,7 @@ reads-append layout veil first more (Goes state) =
     ap (λ (m : ℕ → ℕ). Goes (record state { memory = m })) (taken-append layout veil first more state.memory)
 reads-append layout veil first more (Stops end state) = refl
 
-reads-none : (layout : Layout) (veil : Veil) (now : Next Ideal IdealEnd) → with_reads layout veil [] now ≡ now
+pub reads-none : (layout : Layout) (veil : Veil) (now : Next Ideal IdealEnd) → with_reads layout veil [] now ≡ now
 reads-none layout veil (Goes state) = refl
 reads-none layout veil (Stops end state) = refl
 
@@ -105,10 +105,10 @@ now-last layout veil (events ∷ done) last now =
     now-cons layout veil events (done ++ last ∷ []) now (λ none. nil-push done last (sym none)) ∙ now-last layout veil done last (and_then now (step_over layout veil events))
 
 -- after a history that has entered, these are the events of the step under way, and the machine stood so at its boundary
-record StandsIn (entry : ℕ) (veil : Veil) (program : LoadedProgram) (older : History) (events : List Event) (before : Next Ideal IdealEnd) : Type 0 where
-  entered : entry ≤ length (in_order older)
-  since : since_step entry older ≡ events
-  now : bus_after entry veil program older ≡ with_reads program.layout veil events before
+pub record StandsIn (entry : ℕ) (veil : Veil) (program : LoadedProgram) (older : History) (events : List Event) (before : Next Ideal IdealEnd) : Type 0 where
+  pub entered : entry ≤ length (in_order older)
+  pub since : since_step entry older ≡ events
+  pub now : bus_after entry veil program older ≡ with_reads program.layout veil events before
 
 module _ (entry : ℕ) (veil : Veil) (program : LoadedProgram) where
   longer : (event : Event) (older : History) → entry ≤ length (in_order older) → entry ≤ length (in_order (event ◂ older))
@@ -116,7 +116,7 @@ module _ (entry : ℕ) (veil : Veil) (program : LoadedProgram) where
       let more : length (in_order (event ◂ older)) ≡ length (in_order older) + 1 = length-append (in_order older) (event ∷ []) in
       omega (arith, more, entered)
 
-  retires : (event : Event) (older : History) (events : List Event) (before : Next Ideal IdealEnd) → is_retire event ≡ true → StandsIn entry veil program older events before
+  pub retires : (event : Event) (older : History) (events : List Event) (before : Next Ideal IdealEnd) → is_retire event ≡ true → StandsIn entry veil program older events before
       → StandsIn entry veil program (event ◂ older) [] (and_then before (step_over program.layout veil events))
   retires event older events before done at = record {
     entered = longer event older at.entered;
@@ -130,7 +130,7 @@ module _ (entry : ℕ) (veil : Veil) (program : LoadedProgram) where
         ∙ sym (reads-none program.layout veil (and_then before (step_over program.layout veil events)));
   }
 
-  stays : (event : Event) (older : History) (events : List Event) (before : Next Ideal IdealEnd) → is_retire event ≡ false → StandsIn entry veil program older events before
+  pub stays : (event : Event) (older : History) (events : List Event) (before : Next Ideal IdealEnd) → is_retire event ≡ false → StandsIn entry veil program older events before
       → StandsIn entry veil program (event ◂ older) (events ++ event ∷ []) before
   stays event older events before other at = record {
     entered = longer event older at.entered;
@@ -194,7 +194,7 @@ module _ (entry : ℕ) (veil : Veil) (program : LoadedProgram) where
           ∙ ap (λ (c : Bool). steps_over program.layout veil (onto events (cond c ([] ∷ slice_split is_retire rest) (onto_first event (slice_split is_retire rest)))) before) (sym other)
 
   -- where entering is over
-  enters : (older : History) → length (in_order older) ≡ entry → StandsIn entry veil program older [] (bus_start program)
+  pub enters : (older : History) → length (in_order older) ≡ entry → StandsIn entry veil program older [] (bus_start program)
   enters older long = record {
     entered = omega (arith, long);
     since = since_step-entered entry older long;

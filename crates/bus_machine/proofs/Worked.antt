@@ -16,7 +16,7 @@ use Rattle.orbis_core.specs.declared.Why.TheVariants as why
 use Rattle.orbis_core.specs.ByteOrder.{bytes_of}
 use Rattle.orbis_core.specs.Ideal.{Ideal, IdealEnd, Ended, Index, Refused, Starved}
 use Rattle.orbis_core.specs.Processor.{register}
-use Rattle.bus_machine.specs.BusMachine.{LoadedProgram, Veil, bus_machine, bus_step_after, is_data}
+use Rattle.bus_machine.specs.BusMachine.{LoadedProgram, Veil, block_taken, bus_machine, bus_step_after, is_data}
 
 -- a verified block, a private one, a code block and a log block: the tree blocks 1, 2 and 3 under the root, and one of the log
 abbrev pub layout : Layout
@@ -182,3 +182,13 @@ others : (after (0x70000007 ∷ 0x70000009 ∷ 0x15000000 ∷ 0x15000000 ∷ [])
     × (next_after (0x18801000 ∷ 0x84640040 ∷ 0x15000000 ∷ 0x15000000 ∷ []) [] (done ∷ []) ≡ At (Some (Refused why.Rights)) 0x10000084 0 0 [] [] 0)
 unfolding instruction_in signed class_at height_of
 others = (refl, refl)
+
+abbrev zeros : ℕ → ℕ
+zeros at = 0
+
+-- a block that the layout lacks is not taken
+inside : (block_taken layout veil (Log 0) (block 5 (replicate 64 2)) zeros 0x20000004 ≡ 0x02020202) × (block_taken layout veil (Log 1) (block 5 (replicate 64 2)) zeros 0x20000044 ≡ 0)
+    × (block_taken layout veil (Tree 3) (block 5 (replicate 64 2)) zeros 0x10000084 ≡ 0x02020202) × (block_taken layout veil (Tree 4) (block 5 (replicate 64 2)) zeros 0x100000c4 ≡ 0)
+    × (block_taken layout veil (Tree 3) (block 5 (replicate 64 2)) zeros 0x100000c0 ≡ 0) × (block_taken layout veil (Tree 3) (block 5 (replicate 64 2)) zeros 0x1000007c ≡ 0)
+unfolding height_of
+inside = (refl, refl, refl, refl, refl, refl)

@@ -1,5 +1,5 @@
 -- Promise: a step over a memory whose calls are told in that form is a step of the bus machine over the events that it appended.
-use Rattle.std.specs.Prelude.{◌≡◌, ℕ, true, IsTrue, List}
+use Rattle.std.specs.Prelude.{◌≡◌, ℕ, true, is_some, IsTrue, List, ◌++◌}
 use Rattle.std.specs.List.{list_all}
 use Rattle.execution.specs.Traffic.{Traffic}
 use Rattle.regions.specs.Modes.{is_secure}
@@ -8,7 +8,7 @@ use Rattle.orbis_core.specs.declared.StepEnd.{StepEnd}
 use Rattle.orbis_core.specs.Accesses.{Accesses}
 use Rattle.orbis_core.specs.FlatIsIdeal.{traffic_read}
 use Rattle.orbis_core.specs.Ideal.{Ideal}
-use Rattle.orbis_core.specs.OwnMemory.{Answers, HasInput}
+use Rattle.orbis_core.specs.OwnMemory.{Answers, HasInput, secure_of_end}
 use Rattle.orbis_core.specs.Rows.{Machine, IsSettledEnd, Steps}
 use Rattle.bus_machine.specs.BusAccesses.{Makes, Sight, is_access_event}
 use Rattle.bus_machine.specs.BusMachine.{blocks_taken, bus_step}
@@ -42,6 +42,20 @@ pub record GoesAlong {M : Type 0} (sight : Sight M) (old new : Machine M) (ended
   pub answers : Answers ended (bus_state sight old events memory traffic) after
       (bus_step (sight.layout old.memory) events (bus_state sight old events memory traffic))
 
+-- And where it was a secure instruction, so it does with further events in the step, if they leave the word that was fetched as it is. Such an
+-- instruction changes no word of the memory.
+pub record GoesAlongLater {M : Type 0} (sight : Sight M) (old new : Machine M) (ended : StepEnd) (events more : List Event) (memory : ℕ → ℕ) (traffic : Traffic ℕ) : Type 0 where
+  pub port : HasInput new.port (traffic_read ended traffic)
+  pub agrees : sight.Agrees new.memory (blocks_taken (sight.layout old.memory) (sight.veil old.memory) events memory)
+  pub answers : Answers ended (bus_state sight old (events ++ more) memory traffic) (record (bus_state sight old (events ++ more) memory traffic) { core = new.core })
+      (bus_step (sight.layout old.memory) (events ++ more) (bus_state sight old (events ++ more) memory traffic))
+
+-- the word at an address is as it was, after these further events
+abbrev pub LeaveWord : {M : Type 0} → Sight M → Machine M → List Event → List Event → (ℕ → ℕ) → ℕ → Type 0
+LeaveWord sight machine events more memory at =
+    blocks_taken (sight.layout machine.memory) (sight.veil machine.memory) (events ++ more) memory at
+    ≡ blocks_taken (sight.layout machine.memory) (sight.veil machine.memory) events memory at
+
 -- A step made these events, all of them of accesses; and where no check of the memory failed, the bus machine goes along from each memory
 -- that the lines agree with before the step.
 pub record StepsOnBus {M : Type 0} (sight : Sight M) (old new : Machine M) (ended : StepEnd) : Type 0 where
@@ -50,6 +64,8 @@ pub record StepsOnBus {M : Type 0} (sight : Sight M) (old new : Machine M) (ende
   pub accesses : list_all is_access_event events ≡ true
   pub goes_along : IsSettledEnd ended → (memory : ℕ → ℕ) (traffic : Traffic ℕ) → sight.Agrees old.memory memory → HasInput old.port traffic
       → GoesAlong sight old new ended events memory traffic
+  pub goes_later : is_some (secure_of_end ended) ≡ true → (memory : ℕ → ℕ) (traffic : Traffic ℕ) → sight.Agrees old.memory memory → HasInput old.port traffic
+      → (more : List Event) → LeaveWord sight old events more memory old.core.pc → GoesAlongLater sight old new ended events more memory traffic
 
 -- each step does, in the modes of the secure program
 abbrev pub StepIsOnBus : {M : Type 0} → Sight M → Accesses M → Type 0

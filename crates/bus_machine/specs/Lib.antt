@@ -4,3 +4,4 @@ pub mod EventBounds
 pub mod BusAccesses
 pub mod BusSteps
 pub mod BusData
+pub mod BusTurns

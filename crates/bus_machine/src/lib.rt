@@ -3,4 +3,4 @@
 
 mod laws;
 
-pub use laws::{OverBus, bus_in_steps, step_is_on_bus};
+pub use laws::{OverBus, bus_in_steps, bus_turns, step_is_on_bus};
