@@ -1,5 +1,5 @@
 -- A machine that is tied to the bus machine of its trace goes on with it.
-use Rattle.std.proofs.Common.{◌≡◌, ℕ, Bool, true, false, List, [], ◌∷◌, ◌++◌, Option, Some, None, is_some, refl, sym, ap, ◌∙◌, subst}
+use Rattle.std.proofs.Common.{◌≡◌, ℕ, ◌<◌, arith, Result, Bool, true, false, List, [], ◌∷◌, ◌++◌, Option, Some, None, is_some, refl, sym, ap, ◌∙◌, subst}
 use Rattle.std.specs.Prelude.{IsTrue, if◌then◌else◌}
 use Rattle.std.specs.List.{list_all, list_any}
 use Rattle.std.proofs.lemmas.Bool.{and_parts, or_from}
@@ -8,6 +8,13 @@ use Rattle.std.proofs.lemmas.List.Folds.{list_any-append}
 use Rattle.execution.specs.Run.{Next, Goes, Stops}
 use Rattle.execution.specs.Traffic.{Traffic}
 use Rattle.regions.specs.declared.Layout.{Layout}
+use Rattle.regions.specs.declared.addresses.TheConstants.{LOG_START}
+use Rattle.regions.specs.declared.Class.TheVariants.{Code}
+use Rattle.regions.specs.declared.Access.TheVariants.{Fetch}
+use Rattle.regions.specs.Addresses.{class_at}
+use Rattle.regions.proofs.AddressLaws.{LiesIn-class_at}
+use Rattle.orbis_core.specs.Refusals.{word_refusal}
+use Rattle.orbis_core.proofs.IdealLemmas.{code-fetched}
 use Rattle.regions.specs.declared.Mode.{Mode}
 use Rattle.regions.specs.declared.Mode.TheVariants.{Std, Te, Ptr, Ssp}
 use Rattle.regions.specs.Modes.{Enter, Exit, IndexTrap, DivideTrap, Suspend, Resume, PrivateOn, PrivateOff, Release, Input, Check, allowed_in, is_secure, is_standard}
@@ -30,8 +37,8 @@ use Rattle.orbis_core.specs.FlatIsIdeal.{traffic_read}
 use Rattle.orbis_core.specs.Ideal.{Ideal, IdealEnd, Ended, Index, Divide, Refused}
 use Rattle.orbis_core.specs.OwnMemory.{Answers, HasInput, comes_to, is_permitted, secure_of_end}
 use Rattle.orbis_core.specs.Processor.{Processor}
-use Rattle.orbis_core.specs.Rows.{Machine, IsSettledEnd, Steps}
-use Rattle.bus_machine.specs.BusAccesses.{Makes, MeetsBus, Sight, is_access_event, is_block_event}
+use Rattle.orbis_core.specs.Rows.{Machine, GoesOnAfter, IsSettledEnd, IsStopped, Steps}
+use Rattle.bus_machine.specs.BusAccesses.{Makes, MeetsBus, ReadsBlock, Sight, UnlessRefused, is_access_event, is_block_event}
 use Rattle.bus_machine.specs.BusMachine.{LoadedProgram, Veil, blocks_taken, bus_machine, bus_step, bus_step_after}
 use Rattle.bus_machine.specs.BusSteps.{GoesAlong, GoesAlongLater, StepsOnBus, bus_state}
 use Rattle.bus_machine.specs.BusTurns.{GoesOver, StandsAt, reading}
@@ -183,9 +190,24 @@ module _ {M : Type 0} (sight : Sight M) (accesses : Accesses M) (meets : MeetsBu
     input : HasInput new.port (traffic_read ended after.traffic)
     answers : Answers ended (start events) after (next events)
 
-  module _ (more : List Event) (last : M) (none : IsNotStopped ended) (retires : Retires sight ended old.core.pc more new.memory last) where
+  module _ (more : List Event) (last : M) (none : IsNotStopped ended) (retires : Retires sight ended more new.memory last) where
     abbrev all : List Event
     all = on.events ++ more
+
+    -- the program counter is an address of code, which lies before the log
+    fetched-by : (r : Option Why) → word_refusal (sight.layout old.memory) (sight.mode old.memory) Fetch old.core.pc ≡ r → old.core.pc < LOG_START
+    fetched-by (Some reason) is =
+        let P : Option Why → Type 0 = λ r. UnlessRefused sight r step.answer old.memory step.middle (ReadsBlock sight (λ memory. memory old.core.pc) step.answer old.memory step.middle) in
+        let row = subst P is (meets.fetch old.memory step.middle old.core.pc step.answer tie.secure step.fetched) in
+        let Q : Result ℕ Stop → Type 0 = λ a. GoesOnAfter accesses a (record old { memory = step.middle }) ended new in
+        let stopped : IsStopped (stop.Refused reason) (record old { memory = step.middle }) ended new = subst Q row.0 step.goes_on in
+        absurd (none (stop.Refused reason) stopped.ends)
+    fetched-by None is =
+        let code : class_at (sight.layout old.memory) old.core.pc ≡ Some Code = code-fetched (sight.layout old.memory) (start []) tie.secure is in
+        let lies = LiesIn-class_at (sight.layout old.memory) old.core.pc Code code in
+        let fits = (sight.layout old.memory).data_fits in
+        let below = lies.1 in
+        omega (arith, below, fits)
 
     word-left : blocks_taken (sight.layout old.memory) V all tie.state.memory old.core.pc ≡ blocks_taken (sight.layout old.memory) V on.events tie.state.memory old.core.pc
     word-left =
@@ -193,7 +215,7 @@ module _ {M : Type 0} (sight : Sight M) (accesses : Accesses M) (meets : MeetsBu
         ap (λ (m : ℕ → ℕ). m old.core.pc) (taken-append (sight.layout old.memory) V on.events more tie.state.memory)
         ∙ ap (λ (l : Layout). blocks_taken l V more taken old.core.pc) (sym on.makes.layout)
         ∙ ap (λ (v : Veil). blocks_taken (sight.layout new.memory) v more taken old.core.pc) (sym on.makes.veil)
-        ∙ retires.word taken
+        ∙ retires.data_stays taken old.core.pc (fetched-by (word_refusal (sight.layout old.memory) (sight.mode old.memory) Fetch old.core.pc) refl)
 
     agrees-later : (memory : ℕ → ℕ) → sight.Agrees new.memory memory → sight.Agrees last (blocks_taken (sight.layout old.memory) V more memory)
     agrees-later memory agrees =

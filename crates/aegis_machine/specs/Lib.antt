@@ -1,2 +1,4 @@
+pub mod FuelTests
 pub mod Releases
+pub mod Stores
 pub mod Ties

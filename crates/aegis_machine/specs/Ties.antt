@@ -1,8 +1,9 @@
 -- Promise: a machine over a memory on a bus stands where the bus machine of its trace stands, and goes on with it.
-use Rattle.std.specs.Prelude.{◌≡◌, ℕ, Bool, true, false, IsTrue, is_some, List, [], ◌∷◌, ◌++◌, Option, Some, None}
+use Rattle.std.specs.Prelude.{◌≡◌, ℕ, ◌<◌, Bool, true, false, IsTrue, is_some, List, [], ◌∷◌, ◌++◌, Option, Some, None}
 use Rattle.std.specs.List.{list_all, list_any}
 use Rattle.execution.specs.Run.{Next, Goes, Stops}
 use Rattle.execution.specs.Traffic.{Traffic}
+use Rattle.regions.specs.declared.addresses.TheConstants.{LOG_START}
 use Rattle.regions.specs.declared.Mode.{Mode}
 use Rattle.regions.specs.declared.Mode.TheVariants.{Te, Ptr}
 use Rattle.regions.specs.Modes.{allowed_in, is_secure}
@@ -62,15 +63,15 @@ end_of (end.Divide place) = Some (Divide place)
 end_of ended = None
 
 -- After a step came these further events, and then its mark. They end no instruction and, where the step was that of no secure instruction, there
--- are none. The lines agree with what the further reads leave.
-pub record Retires {M : Type 0} (sight : Sight M) (ended : StepEnd) (fetched_at : ℕ) (more : List Event) (middle last : M) : Type 0 where
+-- are none. They read no data block, and the lines agree with what the further reads leave.
+pub record Retires {M : Type 0} (sight : Sight M) (ended : StepEnd) (more : List Event) (middle last : M) : Type 0 where
   pub trace : sight.trace last ≡ sight.trace middle ++ (more ++ Note (Retire Secure) ∷ [])
   pub layout : sight.layout last ≡ sight.layout middle
   pub veil : sight.veil last ≡ sight.veil middle
   pub mode : sight.mode last ≡ mode_after ended (sight.mode middle)
   pub others : list_any is_retire more ≡ false
   pub none : is_some (secure_of_end ended) ≡ false → more ≡ []
-  pub word : (memory : ℕ → ℕ) → blocks_taken (sight.layout middle) (sight.veil middle) more memory fetched_at ≡ memory fetched_at
+  pub data_stays : (memory : ℕ → ℕ) (at : ℕ) → at < LOG_START → blocks_taken (sight.layout middle) (sight.veil middle) more memory at ≡ memory at
   pub agrees : (memory : ℕ → ℕ) → sight.Agrees middle memory → sight.Agrees last (blocks_taken (sight.layout middle) (sight.veil middle) more memory)
 
 -- the machine after its step: tied again, or ended as the bus machine does
@@ -83,7 +84,7 @@ pub record StepsTied {M : Type 0} (sight : Sight M) (accesses : Accesses M) : Ty
   -- where the instruction was done that the mode permits, it is tied again, or has ended
   pub retired : (program : LoadedProgram) (old new : Machine M) (ended : StepEnd) (more : List Event) (last : M) → IsTied sight program old → Steps accesses old ended new
       → ((reason : Stop) → ended ≡ end.Stopped reason → ⊥) → is_permitted (secure_of_end ended) (sight.mode old.memory) ≡ true
-      → Retires sight ended old.core.pc more new.memory last
+      → Retires sight ended more new.memory last
       → StandsAfter sight program (end_of ended) (record new { memory = last })
   -- where the memory refused it, the bus machine is refused; and so it is where the mode forbids the instruction
   pub refused : (program : LoadedProgram) (old new : Machine M) (reason : Why) → IsTied sight program old → Steps accesses old (end.Stopped (stop.Refused reason)) new
