@@ -1,7 +1,7 @@
 -- Worked runs: what the bus machine says of them, and runs of which one part is wrong.
 use Rattle.std.proofs.Common.{◌≡◌, ℕ, ◌≤◌, true, false, List, [], ◌∷◌, ◌++◌, get_or, replicate, Some, None, refl, ap, lit≤, arith}
 use Rattle.execution.specs.Run.{Goes, Stops, state_of}
-use Rattle.aegis_num.specs.declared.Place.TheVariants.{Log}
+use Rattle.aegis_num.specs.declared.Place.TheVariants.{Log, Tree}
 use Rattle.orbis_word.specs.Reading.{instruction_in, signed}
 use Rattle.regions.specs.Addresses.{class_at}
 use Rattle.regions.specs.Tree.{height_of}
@@ -11,8 +11,9 @@ use Rattle.off_chip.specs.declared.Event.TheVariants.{BlockRead, Note}
 use Rattle.off_chip.specs.declared.Mark.TheVariants as marks
 use Rattle.off_chip.specs.declared.Who.TheVariants.{Untrusted}
 use Rattle.off_chip.specs.Histories.{History, history}
+use Rattle.orbis_core.specs.ByteOrder.{bytes_of}
 use Rattle.orbis_core.specs.Ideal.{Ended, Index, Starved}
-use Rattle.bus_machine.specs.BusData.{ChecksOnce, EndsSo, GoesOn, SendsSo, StartsDue, asks_check, before_step, check_due, most_held}
+use Rattle.bus_machine.specs.BusData.{ChecksOnce, EndsSo, GoesOn, SendsSo, StartsDue, asks_check, before_step, check_due, most_held, sent_before_step}
 use Rattle.bus_machine.specs.BusMachine.{LoadedProgram, bus_machine}
 use Rattle.bus_machine.proofs.Worked.{block, done, entering, hello, program, veil}
 
@@ -35,10 +36,11 @@ sent n = Note (marks.Sent n)
 abbrev Sends : List ℕ → List Event → Type 0
 Sends handed_out events = SendsSo veil greeting handed_out (after events)
 
--- nothing was released; a byte was released and sent; and one is held, since a log read was made
-sends : Sends [] (done ∷ []) × Sends (72 ∷ []) (done ∷ sent 1 ∷ done ∷ []) × Sends [] (logged ∷ done ∷ done ∷ [])
+-- nothing was released, also where a byte is to be sent later; a byte was released and sent; and one is held, since a log read was made
+sends : Sends [] (done ∷ []) × Sends (72 ∷ []) (done ∷ []) × Sends (72 ∷ []) (done ∷ sent 1 ∷ done ∷ []) × Sends [] (logged ∷ done ∷ done ∷ [])
 unfolding instruction_in signed class_at height_of
 sends = (
+  record { held = []; counted = lit≤ tt; released = refl; few = lit≤ tt; quiet = λ quiet. refl },
   record { held = []; counted = lit≤ tt; released = refl; few = lit≤ tt; quiet = λ quiet. refl },
   record { held = []; counted = lit≤ tt; released = refl; few = lit≤ tt; quiet = λ quiet. refl },
   record { held = 72 ∷ []; counted = lit≤ tt; released = refl; few = lit≤ tt; quiet = λ quiet. absurd (let e : _ = quiet.nothing in cc) },
@@ -100,6 +102,21 @@ due = (refl, refl, refl)
 -- the history at the latest boundary
 before : (before_step 7 (after (done ∷ sent 1 ∷ Note (marks.Retire Untrusted) ∷ [])) ≡ after (done ∷ [])) × (before_step 7 (after (sent 1 ∷ [])) ≡ after []) × (before_step 7 (after (done ∷ [])) ≡ after (done ∷ []))
 before = (refl, refl, refl)
+
+-- what was sent in the step that is under way is not counted
+before_sent : (sent_before_step greeting (after (sent 3 ∷ done ∷ sent 1 ∷ [])) ≡ 3) × (sent_before_step greeting (after (sent 3 ∷ [])) ≡ 0)
+unfolding height_of
+before_sent = (refl, refl)
+
+-- a jump to the verified block, where a check instruction was read: it is not fetched
+not_fetched : check_due veil (program (0x03ffffe0 ∷ 0x15000000 ∷ 0x15000000 ∷ 0x15000000 ∷ []) []) (after (BlockRead (Tree 1) (block 5 (bytes_of (replicate 16 0x70000008))) ∷ done ∷ [])) ≡ false
+unfolding instruction_in signed class_at height_of
+not_fetched = refl
+
+-- in the code it is
+fetched : check_due veil (program (0x70000008 ∷ 0x15000000 ∷ 0x15000000 ∷ 0x15000000 ∷ []) []) (after []) ≡ true
+unfolding instruction_in signed class_at height_of
+fetched = refl
 
 abbrev Checks : List Event → Type 0
 Checks events = ChecksOnce veil greeting done (after events)

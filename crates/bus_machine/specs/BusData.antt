@@ -88,10 +88,13 @@ needs_check layout (Goes state) sent =
     is_none (word_refusal layout state.mode Fetch state.core.pc) && asks_check (secure_at state) (length state.traffic.bytes) sent
 needs_check layout (Stops end state) sent = false
 
+-- how many bytes were sent before the step that is under way
+abbrev pub sent_before_step : LoadedProgram → History → ℕ
+sent_before_step program older = bytes_sent (in_order (before_step (enter_events program.layout) older))
+
 -- whether the step that is under way is one, where what was sent before it counts
 abbrev pub check_due : Veil → LoadedProgram → History → Bool
-check_due veil program older =
-    needs_check program.layout (bus_machine veil program older) (bytes_sent (in_order (before_step (enter_events program.layout) older)))
+check_due veil program older = needs_check program.layout (bus_machine veil program older) (sent_before_step program older)
 
 -- a check passes once in each step in which one is made, and in no other: this is said where the step ends
 abbrev pub ChecksOnce : Veil → LoadedProgram → Event → History → Type 0
