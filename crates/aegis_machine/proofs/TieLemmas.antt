@@ -17,11 +17,11 @@ use Rattle.orbis_core.specs.Refusals.{word_refusal}
 use Rattle.orbis_core.proofs.IdealLemmas.{code-fetched}
 use Rattle.regions.specs.declared.Mode.{Mode}
 use Rattle.regions.specs.declared.Mode.TheVariants.{Std, Te, Ptr, Ssp}
-use Rattle.regions.specs.Modes.{Enter, Exit, IndexTrap, DivideTrap, Suspend, Resume, PrivateOn, PrivateOff, Release, Input, Check, allowed_in, is_secure, is_standard}
+use Rattle.regions.specs.Modes.{is_secure, is_standard}
 use Rattle.off_chip.specs.declared.Event.{Event}
 use Rattle.off_chip.specs.declared.Event.TheVariants.{BlockRead, BlockWrite, WordRead, WordWrite, Note}
 use Rattle.off_chip.specs.declared.Mark.TheVariants as marks
-use Rattle.off_chip.specs.declared.Who.TheVariants.{Secure, Untrusted}
+use Rattle.off_chip.specs.declared.Who.TheVariants.{Secure}
 use Rattle.off_chip.specs.Histories.{History, ◌◂◌, followed, history}
 use Rattle.off_chip.specs.Boundaries.{enter_events, is_retire}
 use Rattle.off_chip.proofs.HistoryLemmas.{history-append, history-appended}
@@ -38,9 +38,9 @@ use Rattle.orbis_core.specs.Ideal.{Ideal, IdealEnd, Ended, Index, Divide, Refuse
 use Rattle.orbis_core.specs.OwnMemory.{Answers, HasInput, comes_to, is_permitted, secure_of_end}
 use Rattle.orbis_core.specs.Processor.{Processor}
 use Rattle.orbis_core.specs.Rows.{Machine, GoesOnAfter, IsSettledEnd, IsStopped, Steps}
-use Rattle.bus_machine.specs.BusAccesses.{Makes, MeetsBus, ReadsBlock, Sight, UnlessRefused, is_access_event, is_block_event}
+use Rattle.bus_machine.specs.BusAccesses.{MeetsBus, ReadsBlock, Sight, UnlessRefused, is_access_event, is_block_event}
 use Rattle.bus_machine.specs.BusMachine.{LoadedProgram, Veil, blocks_taken, bus_machine, bus_step, bus_step_after}
-use Rattle.bus_machine.specs.BusSteps.{GoesAlong, GoesAlongLater, StepsOnBus, bus_state}
+use Rattle.bus_machine.specs.BusSteps.{StepsOnBus, bus_state}
 use Rattle.bus_machine.specs.BusTurns.{GoesOver, StandsAt, reading}
 use Rattle.bus_machine.proofs.BusStepLemmas.{step-on-bus}
 use Rattle.bus_machine.proofs.SegmentLemmas.{taken-append}
@@ -258,10 +258,10 @@ module _ {M : Type 0} (sight : Sight M) (accesses : Accesses M) (meets : MeetsBu
     trace-last : history (sight.trace last) ≡ marked
     trace-last =
         let parts : sight.trace last ≡ (sight.trace old.memory ++ all) ++ Note (marks.Retire Secure) ∷ [] =
-            retires.trace ∙ ap (λ (t : List Event). t ++ (more ++ Note (marks.Retire Secure) ∷ [])) on.makes.trace
-            ∙ append_assoc (sight.trace old.memory) on.events (more ++ Note (marks.Retire Secure) ∷ [])
-            ∙ ap (λ (t : List Event). sight.trace old.memory ++ t) (sym (append_assoc on.events more (Note (marks.Retire Secure) ∷ [])))
-            ∙ sym (append_assoc (sight.trace old.memory) all (Note (marks.Retire Secure) ∷ [])) in
+        retires.trace ∙ ap (λ (t : List Event). t ++ (more ++ Note (marks.Retire Secure) ∷ [])) on.makes.trace
+        ∙ append_assoc (sight.trace old.memory) on.events (more ++ Note (marks.Retire Secure) ∷ [])
+        ∙ ap (λ (t : List Event). sight.trace old.memory ++ t) (sym (append_assoc on.events more (Note (marks.Retire Secure) ∷ [])))
+        ∙ sym (append_assoc (sight.trace old.memory) all (Note (marks.Retire Secure) ∷ [])) in
         history-appended (sight.trace old.memory ++ all) (sight.trace last) (Note (marks.Retire Secure)) parts
         ∙ ap (λ (h : History). Note (marks.Retire Secure) ◂ h) (history-append (sight.trace old.memory ++ all) (sight.trace old.memory) all refl)
 

@@ -1,12 +1,11 @@
 -- Promise: a machine over a memory on a bus stands where the bus machine of its trace stands, and goes on with it.
-use Rattle.std.specs.Prelude.{◌≡◌, ℕ, ◌<◌, Bool, true, false, IsTrue, is_some, List, [], ◌∷◌, ◌++◌, Option, Some, None}
-use Rattle.std.specs.List.{list_all, list_any}
-use Rattle.execution.specs.Run.{Next, Goes, Stops}
-use Rattle.execution.specs.Traffic.{Traffic}
+use Rattle.std.specs.Prelude.{◌≡◌, ℕ, ◌<◌, true, false, IsTrue, is_some, List, [], ◌∷◌, ◌++◌, Option, Some, None}
+use Rattle.std.specs.List.{list_any}
+use Rattle.execution.specs.Run.{Stops}
 use Rattle.regions.specs.declared.addresses.TheConstants.{LOG_START}
 use Rattle.regions.specs.declared.Mode.{Mode}
 use Rattle.regions.specs.declared.Mode.TheVariants.{Te, Ptr}
-use Rattle.regions.specs.Modes.{allowed_in, is_secure}
+use Rattle.regions.specs.Modes.{is_secure}
 use Rattle.off_chip.specs.declared.Event.{Event}
 use Rattle.off_chip.specs.declared.Event.TheVariants.{Note}
 use Rattle.off_chip.specs.declared.Mark.TheVariants.{Retire}
@@ -23,7 +22,7 @@ use Rattle.orbis_core.specs.Accesses.{Accesses}
 use Rattle.orbis_core.specs.Ideal.{Ideal, IdealEnd, Ended, Index, Divide, Refused}
 use Rattle.orbis_core.specs.OwnMemory.{HasInput, is_permitted, secure_of_end}
 use Rattle.orbis_core.specs.Rows.{Machine, Steps}
-use Rattle.bus_machine.specs.BusAccesses.{Makes, Sight}
+use Rattle.bus_machine.specs.BusAccesses.{Sight}
 use Rattle.bus_machine.specs.BusMachine.{LoadedProgram, blocks_taken, bus_machine, bus_step_after}
 use Rattle.bus_machine.specs.BusTurns.{StandsAt}
 

@@ -2,11 +2,13 @@
 ghost use Rattle.std.specs.Prelude.{◌≡◌, ℕ, ◌+◌, ◌<◌, ◌≤◌, [], ◌∷◌, ◌++◌, length, IsTrue, OnOk, OnErr, ◌↔◌};
 ghost use Rattle.aegis_edge.specs.Faults.{Rose};
 ghost use Rattle.aegis_edge.specs.Sink.{Appends, AppendsFront, IsWithin, limit_after};
+ghost use Rattle.aegis_machine.specs.Guards.{LeadsOn};
 ghost use Rattle.aegis_machine.specs.Releases.{mark_sent};
 
+use crate::guarded::Guarded;
 use aegis_edge::{Sink, SinkFault};
 use arrayvec::ArrayVec;
-use off_chip::{Mark, OffChip};
+use off_chip::Mark;
 use std::marker::Model;
 
 /// How many bytes are held at most. They are sent in one piece.
@@ -61,13 +63,12 @@ impl Held {
 
     /// Sends what is held in one piece: the mark is noted first, and then the piece is handed to the sink. After it nothing is
     /// held. Where nothing is held it makes no event and calls no sink. Takes room for one event.
-    pub fn send<O: OffChip, K: Sink>(&mut self, bus: &mut O, out: &mut K) -> Result<(), SinkFault>
-        requires has_room { 0 < O.room bus.old }
+    pub fn send<M: Guarded, K: Sink>(&mut self, mem: &mut M, out: &mut K) -> Result<(), SinkFault>
+        requires has_room { 0 < M.room mem.old }
         requires within { IsWithin (K.limit out.old) self.old }
         ensures empty { self.new ≡ [] }
-        ensures marked { O.trace bus.new ≡ O.trace bus.old ++ mark_sent self.old }
-        ensures room { O.room bus.new + length (mark_sent self.old) ≡ O.room bus.old }
-        ensures same { O.same_memory bus.old bus.new }
+        ensures marked { LeadsOn M.sight (mark_sent self.old) mem.old mem.new }
+        ensures room { M.room mem.new + length (mark_sent self.old) ≡ M.room mem.old }
         ensures none { self.old ≡ [] → out.new ≡ out.old }
         ensures taken { OnOk result (Appends (K.written out.old) (K.written out.new) self.old) }
         ensures left { OnOk result (K.limit out.new ≡ limit_after (K.limit out.old) (length self.old)) }
@@ -78,7 +79,7 @@ impl Held {
         if self.bytes.is_empty() {
             return Ok(());
         }
-        bus.note(Mark::Sent(self.bytes.len() as u16));
+        mem.note(Mark::Sent(self.bytes.len() as u16));
         let sent = out.write(self.bytes.as_slice());
         self.bytes.clear();
         sent

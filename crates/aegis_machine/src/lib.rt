@@ -2,11 +2,15 @@
 #![tactic(auto)]
 
 mod ends;
+mod guarded;
 mod held;
+mod instructions;
 mod laws;
 mod store;
 
 pub use ends::{End, has_fuel};
+pub use guarded::Guarded;
 pub use held::{Held, MAX_HELD};
+pub use instructions::{Done, Fault, instruction, permits};
 pub use laws::steps_stay_tied;
 pub use store::Store;
