@@ -14,3 +14,6 @@ pub use held::{Held, MAX_HELD};
 pub use instructions::{Done, Fault, instruction, permits};
 pub use laws::steps_stay_tied;
 pub use store::Store;
+
+#[cfg(test)]
+mod tests;
