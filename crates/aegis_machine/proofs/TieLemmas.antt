@@ -5,7 +5,7 @@ use Rattle.std.specs.List.{list_all, list_any}
 use Rattle.std.proofs.lemmas.Bool.{and_parts, or_from}
 use Rattle.std.proofs.lemmas.List.{append-nil, append_assoc}
 use Rattle.std.proofs.lemmas.List.Folds.{list_any-append}
-use Rattle.execution.specs.Run.{Next, Goes, Stops}
+use Rattle.execution.specs.Run.{Next, Goes, Stops, state_of}
 use Rattle.execution.specs.Traffic.{Traffic}
 use Rattle.regions.specs.declared.Layout.{Layout}
 use Rattle.regions.specs.declared.addresses.TheConstants.{LOG_START}
@@ -45,7 +45,7 @@ use Rattle.bus_machine.specs.BusTurns.{GoesOver, StandsAt, reading}
 use Rattle.bus_machine.proofs.BusStepLemmas.{step-on-bus}
 use Rattle.bus_machine.proofs.SegmentLemmas.{taken-append}
 use Rattle.bus_machine.proofs.TurnLemmas.{goes-over}
-use Rattle.aegis_machine.specs.Ties.{EndsTied, IsTied, RefusedTied, Retires, StandsAfter, StepsTied, end_of, mode_after}
+use Rattle.aegis_machine.specs.Ties.{EndsTied, IsTied, RefusedTied, Retires, StandsAfter, StepsTied, end_of, mode_after, released_by}
 
 -- ---- events of accesses end no instruction
 
@@ -188,6 +188,7 @@ module _ {M : Type 0} (sight : Sight M) (accesses : Accesses M) (meets : MeetsBu
     mode : after.mode ≡ sight.mode old.memory
     agrees : sight.Agrees last after.memory
     input : HasInput new.port (traffic_read ended after.traffic)
+    bytes : after.traffic.bytes ≡ tie.state.traffic.bytes
     answers : Answers ended (start events) after (next events)
 
   module _ (more : List Event) (last : M) (none : IsNotStopped ended) (retires : Retires sight ended more new.memory last) where
@@ -234,6 +235,7 @@ module _ {M : Type 0} (sight : Sight M) (accesses : Accesses M) (meets : MeetsBu
           agrees = subst P (sym (taken-append (sight.layout old.memory) V on.events more tie.state.memory))
               (agrees-later (blocks_taken (sight.layout old.memory) V on.events tie.state.memory) later.agrees);
           input = later.port;
+          bytes = refl;
           answers = later.answers;
         }
     reached false is =
@@ -248,6 +250,7 @@ module _ {M : Type 0} (sight : Sight M) (accesses : Accesses M) (meets : MeetsBu
           mode = along.mode;
           agrees = subst P no_more (agrees-later along.after.memory along.agrees);
           input = along.port;
+          bytes = along.exchanged.bytes;
           answers = subst Q (sym same) along.answers;
         }
 
@@ -332,6 +335,31 @@ module _ {M : Type 0} (sight : Sight M) (accesses : Accesses M) (meets : MeetsBu
     by-end (end.Index place) is at come input permitted = ended-at (Index place) at.after come
     by-end (end.Divide place) is at come input permitted = ended-at (Divide place) at.after come
 
+    bytes-after : (e : StepEnd) (state : Ideal) → IsNotStopped e → (state_of (comes_to e state)).traffic.bytes ≡ state.traffic.bytes ++ released_by e
+    bytes-after (end.Stopped reason) state not_stopped = absurd (not_stopped reason refl)
+    bytes-after (end.Released byte) state not_stopped = refl
+    bytes-after end.Next state not_stopped = sym (append-nil state.traffic.bytes)
+    bytes-after end.Input state not_stopped = sym (append-nil state.traffic.bytes)
+    bytes-after end.Check state not_stopped = sym (append-nil state.traffic.bytes)
+    bytes-after end.Suspend state not_stopped = sym (append-nil state.traffic.bytes)
+    bytes-after end.Resume state not_stopped = sym (append-nil state.traffic.bytes)
+    bytes-after end.Enter state not_stopped = sym (append-nil state.traffic.bytes)
+    bytes-after (end.Private true) state not_stopped = sym (append-nil state.traffic.bytes)
+    bytes-after (end.Private false) state not_stopped = sym (append-nil state.traffic.bytes)
+    bytes-after end.Exit state not_stopped = sym (append-nil state.traffic.bytes)
+    bytes-after (end.Index place) state not_stopped = sym (append-nil state.traffic.bytes)
+    bytes-after (end.Divide place) state not_stopped = sym (append-nil state.traffic.bytes)
+
+    released : is_permitted (secure_of_end ended) (sight.mode old.memory) ≡ true
+        → (state_of (bus_machine (sight.veil last) program (history (sight.trace last)))).traffic.bytes ≡ tie.state.traffic.bytes ++ released_by ended
+    released permitted =
+        let at = reached (is_some (secure_of_end ended)) refl in
+        ap (λ (v : Veil). (state_of (bus_machine v program (history (sight.trace last)))).traffic.bytes) veil-last
+        ∙ ap (λ (h : History). (state_of (bus_machine V program h)).traffic.bytes) trace-last
+        ∙ ap (λ (n : Next Ideal IdealEnd). (state_of n).traffic.bytes) (comes at permitted)
+        ∙ bytes-after ended at.after none
+        ∙ ap (λ (bytes : List ℕ). bytes ++ released_by ended) at.bytes
+
     retired : is_permitted (secure_of_end ended) (sight.mode old.memory) ≡ true → StandsAfter sight program (end_of ended) (record new { memory = last })
     retired permitted =
         let at = reached (is_some (secure_of_end ended)) refl in
@@ -347,6 +375,7 @@ refused sight accesses meets program old new reason tie step =
 pub steps-tied : {M : Type 0} (sight : Sight M) (accesses : Accesses M) → MeetsBus sight accesses → StepsTied sight accesses
 steps-tied sight accesses meets = record {
   retired = λ program old new ended more last tie step none permitted retires. retired sight accesses meets program old new ended tie step more last none retires permitted;
+  released = λ program old new ended more last tie step none permitted retires. released sight accesses meets program old new ended tie step more last none retires permitted;
   refused = λ program old new reason tie step. refused sight accesses meets program old new reason tie step;
   forbidden = λ program old new ended tie step permitted. forbidden sight accesses meets program old new ended tie step permitted;
 }

@@ -1,7 +1,7 @@
 -- Promise: a machine over a memory on a bus stands where the bus machine of its trace stands, and goes on with it.
-use Rattle.std.specs.Prelude.{◌≡◌, ℕ, ◌<◌, true, false, IsTrue, is_some, List, [], ◌∷◌, ◌++◌, Option, Some, None}
+use Rattle.std.specs.Prelude.{◌≡◌, ℕ, ◌<◌, ◌^◌, ◌%◌, true, false, IsTrue, is_some, List, [], ◌∷◌, ◌++◌, Option, Some, None}
 use Rattle.std.specs.List.{list_any}
-use Rattle.execution.specs.Run.{Stops}
+use Rattle.execution.specs.Run.{Stops, state_of}
 use Rattle.regions.specs.declared.addresses.TheConstants.{LOG_START}
 use Rattle.regions.specs.declared.Mode.{Mode}
 use Rattle.regions.specs.declared.Mode.TheVariants.{Te, Ptr}
@@ -61,6 +61,11 @@ end_of (end.Index place) = Some (Index place)
 end_of (end.Divide place) = Some (Divide place)
 end_of ended = None
 
+-- the byte that an instruction which ended so released, if it did
+abbrev pub released_by : StepEnd → List ℕ
+released_by (end.Released byte) = byte % 2 ^ 8 ∷ []
+released_by ended = []
+
 -- After a step came these further events, and then its mark. They end no instruction and, where the step was that of no secure instruction, there
 -- are none. They read no data block, and the lines agree with what the further reads leave.
 pub record Retires {M : Type 0} (sight : Sight M) (ended : StepEnd) (more : List Event) (middle last : M) : Type 0 where
@@ -85,6 +90,11 @@ pub record StepsTied {M : Type 0} (sight : Sight M) (accesses : Accesses M) : Ty
       → ((reason : Stop) → ended ≡ end.Stopped reason → ⊥) → is_permitted (secure_of_end ended) (sight.mode old.memory) ≡ true
       → Retires sight ended more new.memory last
       → StandsAfter sight program (end_of ended) (record new { memory = last })
+  -- and then the bus machine has released the bytes that it had released before, and that of the instruction
+  pub released : (program : LoadedProgram) (old new : Machine M) (ended : StepEnd) (more : List Event) (last : M) (tie : IsTied sight program old) → Steps accesses old ended new
+      → ((reason : Stop) → ended ≡ end.Stopped reason → ⊥) → is_permitted (secure_of_end ended) (sight.mode old.memory) ≡ true
+      → Retires sight ended more new.memory last
+      → (state_of (bus_machine (sight.veil last) program (history (sight.trace last)))).traffic.bytes ≡ tie.state.traffic.bytes ++ released_by ended
   -- where the memory refused it, the bus machine is refused; and so it is where the mode forbids the instruction
   pub refused : (program : LoadedProgram) (old new : Machine M) (reason : Why) → IsTied sight program old → Steps accesses old (end.Stopped (stop.Refused reason)) new
       → RefusedTied sight program reason new.memory
