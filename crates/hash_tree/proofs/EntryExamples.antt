@@ -163,7 +163,7 @@ entered-rebuilt : Entered two_blocks tree new_tree (tree_on (events_of 13 0)) (p
 unfolding height_of
 entered-rebuilt entered =
     let reads : filter_map payload_read entered.events ≡ read ∷ [] = ap (λ (t : List Event). filter_map payload_read t) (sym entered.appended) in
-    let same : Some (13 ∷ replicate 63 0) ≡ Some read = entered.statics 0 (lit< tt) ∙ ap (λ (xs : List (List ℕ)). slice_get xs 0) reads in
+    let same : ◌≡◌ {A = Option (List ℕ)} (Some (13 ∷ replicate 63 0)) (Some read) = entered.statics 0 (lit< tt) ∙ ap (λ (xs : List (List ℕ)). slice_get xs 0) reads in
     let e : ◌≡◌ {A = ℕ} 13 12 = ap (λ (o : Option (List ℕ)). head o) same in
     omega (arith, e)
 
@@ -171,7 +171,7 @@ entered-rebuilt entered =
 entered-not_zero : Entered two_blocks tree new_tree (tree_on (events_of 12 7)) (program_digest (read ∷ [])) → ⊥
 unfolding height_of
 entered-not_zero entered =
-    let same : Some (7 ∷ replicate 63 0) ≡ Some (replicate 64 0) = entered.zeros 3 (lit≤ tt) (lit< tt) refl in
+    let same : ◌≡◌ {A = Option (List ℕ)} (Some (7 ∷ replicate 63 0)) (Some (replicate 64 0)) = entered.zeros 3 (lit≤ tt) (lit< tt) refl in
     let e : ◌≡◌ {A = ℕ} 7 0 = ap (λ (o : Option (List ℕ)). head o) same in
     omega (arith, e)
 

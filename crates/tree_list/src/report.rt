@@ -3,7 +3,7 @@ use crate::play::Played;
 use aegis_num::{Block, Place};
 use anyhow::Result;
 use hash_tree::Changed;
-use off_chip::{Event, Trace};
+use off_chip::{Event, Mark, Trace};
 use std::alloc::Global;
 
 /// The digest of a program that was entered, and how a load ended.
@@ -89,10 +89,27 @@ fn first_unfaithful(alloc: Global, trace: &Trace) -> Result<Option<usize>> {
     Ok(None)
 }
 
+// How many events write a block, and how many note that one was dropped. Each other event of a run reads a block.
+fn writes_and_drops(trace: &Trace) -> (usize, usize) {
+    let writes = trace
+        .events()
+        .iter()
+        .filter(|event| matches!(event, Event::BlockWrite { .. }))
+        .count();
+    let drops = trace
+        .events()
+        .iter()
+        .filter(|event| matches!(event, Event::Note(Mark::Drop(_))))
+        .count();
+    (writes, drops)
+}
+
 /// A text, and after it how many events a trace has, and its first read that does not give the block that was written last.
 pub(crate) fn with_faith(alloc: Global, mut text: String, trace: &Trace) -> Result<String> {
     let events = trace.events().len();
-    text.push_str(format!(in alloc; ", {events} events")?.as_str())?;
+    let (writes, drops) = writes_and_drops(trace);
+    let counts = format!(in alloc; ", {events} events with {writes} writes and {drops} drops")?;
+    text.push_str(counts.as_str())?;
     let end = match first_unfaithful(alloc, trace)? {
         Some(number) => format!(in alloc; ", read {number} is not of the last write")?,
         None => format!(in alloc; ", all reads are of the last writes")?,
