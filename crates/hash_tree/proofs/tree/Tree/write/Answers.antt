@@ -3,7 +3,7 @@ use Rattle.hash_tree.proofs.CallLemmas.{stamps-below}
 use Rattle.hash_tree.proofs.EnterParts.{writes-first}
 use Rattle.hash_tree.proofs.SchemeLemmas.{keeps-veil}
 use Rattle.hash_tree.proofs.WriteBackLemmas.{fits-written}
-use Rattle.hash_tree.proofs.tree.Tree.write_first.Goals as goal
+use Rattle.hash_tree.proofs.tree.Tree.write.Goals as goal
 
 pub fresh-requires : goal.fresh-requires
 fresh-requires g c = stamps-below _ _ _ c.requires.fit c.requires.limit c.requires.has_room
