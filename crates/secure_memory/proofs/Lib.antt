@@ -11,4 +11,5 @@ pub mod AccessLemmas
 pub mod StoreActs
 pub mod OpenActs
 pub mod FetchLemmas
+pub mod IdealLemmas
 mod PadExamples

@@ -2,7 +2,7 @@
 use Rattle.std.proofs.Common.{◌≡◌, ℕ, zero, suc, ◌+◌, ◌*◌, ◌/◌, ◌%◌, ◌^◌, ◌<◌, ◌≤◌, List, [], ◌∷◌, ◌++◌, length, refl, sym, ap, ◌∙◌, arith}
 use Rattle.std.specs.Prelude.{slice_index, slice_set, take, drop}
 use Rattle.std.specs.Int.{w32, to_be_bytes, from_be_bytes}
-use Rattle.orbis_core.specs.ByteOrder.{byte_in, with_byte, word_of_bytes, words_in}
+use Rattle.orbis_core.specs.ByteOrder.{with_byte, word_of_bytes, words_in}
 use Rattle.off_chip.specs.OffChipBytes.{bytes_put}
 
 -- word number k has the bytes from 4 * k on

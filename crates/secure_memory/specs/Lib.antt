@@ -7,3 +7,4 @@ pub mod BlockWords
 pub mod MemorySights
 pub mod MemoryAccesses
 pub mod AccessesLeft
+pub mod IdealAccesses

@@ -8,7 +8,7 @@ mod pads;
 mod path;
 mod words;
 
-pub use laws::outside_events_keep;
+pub use laws::{accesses_are_ideal, outside_events_keep};
 pub use memory::{Parts, SecureMemory};
 pub use pads::PrivatePad;
 
