@@ -1,6 +1,6 @@
 //! The weights, typed in by hand.
-use crate::Op;
 use aegis_num::{BinaryOp, UnaryOp};
+use ir_code::Op;
 
 #[test]
 fn weighs_each_operation(rt: HostRuntime) {

@@ -1,5 +1,5 @@
 //! The counter of stamps, step by step.
-use crate::Stamps;
+use aegis_num::Stamps;
 
 #[test]
 fn gives_the_stamps_in_order(rt: HostRuntime) {

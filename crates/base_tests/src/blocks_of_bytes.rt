@@ -1,4 +1,5 @@
-use super::*;
+//! Bytes that are put into a region and taken out again.
+use raw_region::Region;
 use std::test::Fail;
 
 #[test]

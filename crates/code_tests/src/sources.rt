@@ -1,5 +1,6 @@
-use super::*;
+//! The text of a made source.
 use std::test::Fail;
+use work_maker::{MOST_FUNCTIONS, make_source};
 
 #[test]
 fn makes_sources(rt: HostRuntime) -> Result<(), Fail> {

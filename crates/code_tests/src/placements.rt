@@ -2,8 +2,8 @@
 ghost use Rattle.std.specs.Prelude.{◌≡◌, ◌^◌, ◌<◌, true, [], ◌∷◌, IfOk, length};
 ghost use Rattle.ir_code.specs.Lawful.{all_hold, is_data};
 
-use crate::{PlanError, plan};
 use ir_code::{Cell, Ir};
+use region_plan::{PlanError, plan};
 use regions::Class;
 use sqlite_items::Items;
 use std::alloc::{AllocError, Global};

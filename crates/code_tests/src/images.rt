@@ -1,4 +1,5 @@
-use super::*;
+//! Files that are images, and such that are none.
+use image_file::{ImageError, image_bytes, read_image};
 use std::alloc::Global;
 use std::process::Abort;
 use std::test::Fail;

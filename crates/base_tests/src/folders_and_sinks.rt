@@ -1,4 +1,5 @@
-use super::*;
+//! Folders and sinks in memory and of the host, with their faults.
+use aegis_edge::{Folder, FolderError, HostFolder, HostSink, MemFolder, MemSink, NeverFails, Sink, SinkFault};
 use std::io::{self, Write};
 use std::test::Fail;
 use std::{env, fs, process};
@@ -134,5 +135,16 @@ fn writers_of_the_host(rt: HostRuntime) -> Result<(), Fail> {
     assert_eq!(rt; output.write(b"to standard output\n"), Ok(()));
     let mut report = HostSink::new(rt.stderr());
     assert_eq!(rt; report.write(b"to standard error\n"), Ok(()));
+    Ok(())
+}
+
+#[test]
+fn takes_each_piece(rt: HostRuntime) -> Result<(), Fail> {
+    let mut sink = NeverFails::with_room(rt.alloc(), 3)?;
+    assert_eq!(rt; sink.bytes(), b"".as_slice());
+    assert_eq!(rt; sink.write(b"AB"), Ok(()));
+    assert_eq!(rt; sink.bytes(), b"AB".as_slice());
+    assert_eq!(rt; sink.write(b"C"), Ok(()));
+    assert_eq!(rt; sink.bytes(), b"ABC".as_slice());
     Ok(())
 }
