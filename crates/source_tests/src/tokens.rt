@@ -1,5 +1,6 @@
-use crate::{Kind, Sign, Token, TokenError, Word, tokens};
+//! The tokens of a text, and the bytes where they begin.
 use aegis_num::Name;
+use c_token::{Kind, Sign, Token, Word, tokens};
 use std::test::Fail;
 
 #[test]
@@ -27,26 +28,6 @@ fn reads_a_text(rt: HostRuntime) -> Result<(), Fail> {
     assert_eq!(rt; found.len(), kinds.len());
     for (token, (kind, at)) in found.iter().zip(kinds) {
         assert_eq!(rt; *token, Token { kind, at });
-    }
-    Ok(())
-}
-
-#[test]
-fn finds_the_first_fault(rt: HostRuntime) -> Result<(), Fail> {
-    let faults = [
-        ("a$ 089", TokenError::BadByte { at: 1 }),
-        ("a /*/", TokenError::OpenComment { at: 2 }),
-        (
-            "+ abcdefghijklmnopqrstuvwxyzabcdef",
-            TokenError::LongName { at: 2 },
-        ),
-        ("4294967296x", TokenError::BadNumber { at: 0 }),
-        ("0x100000000", TokenError::BigNumber { at: 0 }),
-    ];
-    for (text, error) in faults {
-        assert!(rt; text.len() <= 64);
-        let found = tokens(rt.alloc(), text.as_bytes());
-        assert_eq!(rt; found.err(), Some(error), "in {text}");
     }
     Ok(())
 }

@@ -1,5 +1,6 @@
-use crate::{SyntaxError, read_program};
+//! A program of each production, and one of as many tokens as a text of the largest size may have.
 use aegis_num::limits::MAX_SOURCE_BYTES;
+use c_reader::{SyntaxError, read_program};
 use c_token::{Kind, Sign, Token, tokens};
 use std::alloc::Global;
 use std::process::Abort;
@@ -35,39 +36,6 @@ fn reads_each_production(rt: HostRuntime) -> Result<(), Fail> {
         void h(){}unsigned int main(void){release(0x48);/* i */release(105u);return 0;}";
     assert_eq!(rt; outcome_of(&rt, rt.alloc(), text)?, Ok(12));
     assert_eq!(rt; outcome_of(&rt, rt.alloc(), "")?, Ok(0));
-    Ok(())
-}
-
-/// The token that is faulty, in a text that ends too soon, that goes on wrongly, and that nests too deep.
-#[test]
-fn names_the_faulty_token(rt: HostRuntime) -> Result<(), Fail> {
-    let rows = [
-        ("int x", 2),
-        ("int main(void){release(72)return 0;}", 10),
-        ("int f(void){if(1)int a;}", 10),
-        ("int f(void){}}", 7),
-    ];
-    for (text, token) in rows {
-        let found = outcome_of(&rt, rt.alloc(), text)?;
-        assert_eq!(rt; found, Err(SyntaxError::Expected { token }), "{text}");
-    }
-    let rows = [
-        ("", "{", ";", 64, 70),
-        ("return ", "-", "1;", 64, 70),
-        ("return 1", "+1", ";", 65, 136),
-    ];
-    for (before, piece, after, count, token) in rows {
-        let mut text = Vec::from_slice(rt.alloc(), b"int f(void){")?;
-        text.extend_from_slice(before.as_bytes())?;
-        for _ in 0..count {
-            text.extend_from_slice(piece.as_bytes())?;
-        }
-        text.extend_from_slice(after.as_bytes())?;
-        assert!(rt; text.len() as u64 <= MAX_SOURCE_BYTES);
-        let tokens = tokens(rt.alloc(), text.as_slice())?;
-        let found = outcome(&rt, rt.alloc(), tokens.as_slice());
-        assert_eq!(rt; found, Err(SyntaxError::Deep { token }), "{piece}");
-    }
     Ok(())
 }
 

@@ -1,6 +1,6 @@
 //! Names that hide others, and come back.
-use crate::{Names, local};
 use aegis_num::Name;
+use c_scopes::{Names, local};
 use std::test::Fail;
 
 #[test]
