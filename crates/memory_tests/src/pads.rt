@@ -1,6 +1,6 @@
 //! The cipher against the standard's vectors, and pads against values that were computed elsewhere.
-use crate::{Aes, xor_into};
 use aegis_num::Key;
+use aes_pad::{Aes, xor_into};
 
 // The bytes from 00 to 0f, in order.
 const RAMP: [u8; 16] = [0, 1, 2, 3, 4, 5, 6, 7, 8, 9, 10, 11, 12, 13, 14, 15];

@@ -1,6 +1,6 @@
 //! A full cache, and what it removes next.
-use super::{Line, LineCache, Lines, Pins};
 use arrayvec::ArrayVec;
+use line_cache::{Line, LineCache, Lines, Pins};
 use std::test::Fail;
 
 /// Inserts a block if it may be inserted.
@@ -62,36 +62,63 @@ fn removed<L: Lines>(lines: &mut L) -> Option<(u32, Line)> {
     Some((block, lines.remove(block)))
 }
 
+/// Whether the blocks of a range were all inserted.
+fn filled<L: Lines>(lines: &mut L, blocks: u32) -> bool {
+    let mut all = true;
+    for block in 0..blocks {
+        all = inserted(lines, block) && all;
+    }
+    all
+}
+
+/// Whether the blocks from one number to another were all touched.
+fn all_touched<L: Lines>(lines: &mut L, from: u32, to: u32) -> bool {
+    let mut all = true;
+    for block in from..to {
+        all = touched(lines, block) && all;
+    }
+    all
+}
+
+/// The number of the block that is removed, the first byte of its line, and whether that was dirty.
+fn gone<L: Lines>(lines: &mut L) -> Option<(u32, u8, bool)> {
+    let (block, line) = removed(lines)?;
+    Some((block, line.payload[0], line.dirty))
+}
+
 #[test]
 fn least_recently_used_goes_first(rt: HostRuntime) -> Result<(), Fail> {
     let mut cache = LineCache::new(rt.alloc())?;
-    assert!(rt; !inserted(&mut cache, 1));
-    for block in 0..128 {
-        assert!(rt; inserted(&mut cache, block));
-    }
-    assert!(rt; !inserted(&mut cache, 128));
-    assert!(rt; !touched(&mut cache, 128));
-    assert!(rt; touched(&mut cache, 43));
-    assert!(rt; written(&mut cache, 44, 9));
-    assert!(rt; written(&mut cache, 45, 8) && cleaned(&mut cache, 45));
-    assert_eq!(rt; seen(&cache, 44), Some((9, true)));
-    assert_eq!(rt; seen(&cache, 45), Some((8, false)));
+    // A block whose parent is not held; all that there is room for; one more.
+    let full = [
+        inserted(&mut cache, 1),
+        filled(&mut cache, 128),
+        inserted(&mut cache, 128),
+        touched(&mut cache, 128),
+    ];
+    assert_eq!(rt; full, [false, true, false, false]);
+    let changed = [
+        touched(&mut cache, 43),
+        written(&mut cache, 44, 9),
+        written(&mut cache, 45, 8),
+        cleaned(&mut cache, 45),
+    ];
+    assert_eq!(rt; changed, [true; 4]);
+    assert_eq!(rt;
+        [seen(&cache, 44), seen(&cache, 45)],
+        [Some((9, true)), Some((8, false))]
+    );
     // The blocks 0 to 42 have children in the cache, and 43 to 45 were used after 46 and 47.
     for block in [46, 47] {
-        let (number, line) = removed(&mut cache).ok_or("no block is to be removed")?;
-        assert_eq!(rt; number, block);
-        assert_eq!(rt; line.payload[0], 7);
-        assert!(rt; !line.dirty);
-        assert!(rt; removed(&mut cache).is_none());
-        assert!(rt; inserted(&mut cache, 128 + (block - 46)));
+        assert_eq!(rt;
+            [gone(&mut cache), gone(&mut cache)],
+            [Some((block, 7, false)), None]
+        );
+        assert!(rt; inserted(&mut cache, block + 82));
     }
-    for block in 48..128 {
-        assert!(rt; touched(&mut cache, block));
-    }
-    assert!(rt; touched(&mut cache, 128) && touched(&mut cache, 129));
-    assert_eq!(rt; removed(&mut cache).ok_or("full")?.0, 43);
+    assert!(rt; all_touched(&mut cache, 48, 130));
+    assert_eq!(rt; gone(&mut cache), Some((43, 7, false)));
     assert!(rt; inserted(&mut cache, 43));
-    let (number, line) = removed(&mut cache).ok_or("full")?;
-    assert_eq!(rt; (number, line.payload[0], line.dirty), (44, 9, true));
+    assert_eq!(rt; gone(&mut cache), Some((44, 9, true)));
     Ok(())
 }

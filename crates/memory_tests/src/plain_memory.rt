@@ -2,8 +2,8 @@
 ghost use Rattle.std.specs.Prelude.{◌≤◌};
 ghost use Rattle.off_chip.specs.BusCalls.{IsInside};
 
-use crate::{Event, Mark, OffChip, PlainDram, Who, blocks_of_tree};
 use aegis_num::{Block, Place};
+use off_chip::{Event, Mark, OffChip, PlainDram, Who, blocks_of_tree};
 use regions::Layout;
 use std::test::Fail;
 

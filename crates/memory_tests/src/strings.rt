@@ -1,6 +1,6 @@
 //! Strings and digests against values that were computed elsewhere.
-use crate::{ProgramHasher, block_digest, block_string, entry_value, keys_of};
 use aegis_num::{Block, Key};
+use block_hash::{ProgramHasher, block_digest, block_string, entry_value, keys_of};
 
 // The bytes from 0 to 63, in order.
 fn ramp() -> [u8; 64] {

@@ -1,10 +1,10 @@
 //! Phases on a plain memory, which holds the resume instruction where untrusted code starts.
 ghost use Rattle.std.specs.Prelude.{◌≤◌};
 
-use crate::{UntrustedEnd, run_untrusted};
 use off_chip::{Event, Mark, OffChip, PlainDram, Who};
 use regions::Layout;
 use std::test::Fail;
+use untrusted_run::{UntrustedEnd, run_untrusted};
 
 // Puts words where untrusted code starts, and runs them.
 fn run<M: OffChip>(memory: &mut M, words: &[u32; 4]) -> UntrustedEnd

@@ -1,6 +1,6 @@
 use Rattle.std.proofs.Common.{ap, arith}
 use Rattle.regions.specs.Tree.{tree_blocks}
-use Rattle.off_chip.proofs.tests.answers_with_the_last_write_or_the_load.Goals as goal
+use Rattle.memory_tests.proofs.plain_memory.answers_with_the_last_write_or_the_load.Goals as goal
 
 pub call_each-answers-requires-clause-code : goal.call_each-answers-requires-clause-code
 call_each-answers-requires-clause-code g c =
