@@ -16,8 +16,9 @@ use Rattle.image_file.specs.declared.Image.{Image}
 use Rattle.image_file.specs.ImageTable.{static_bytes}
 use Rattle.codegen.specs.ImageCode.{code_blocks}
 use Rattle.codegen.specs.EmittedImage.{IsImageOf, MeansCode}
-use Rattle.compiler.specs.CompilerTheorem.{IsCompiled, MeansSource}
+use Rattle.compiler.specs.CompilerTheorem.{IsCompiled, MeansByElements, MeansSource}
 use Rattle.compiler.specs.Places.{HasPlaces}
+use Rattle.compiler.proofs.ByElements.{means-by-elements}
 use Rattle.compiler.proofs.MeaningKept.{means-source}
 use Rattle.compiler.proofs.Measured.{has-memory, small-image}
 use Rattle.compiler.proofs.Placed.{has-places}
@@ -43,6 +44,11 @@ is-compiled p im s e = record {
   unchecked = means shared_and_logged_loose refl refl;
   shared = means shared_loose refl refl;
   alone = means nothing_loose refl refl;
+  elements = record {
+    unchecked = by-elements shared_and_logged_loose refl refl;
+    shared = by-elements shared_loose refl refl;
+    alone = by-elements nothing_loose refl refl;
+  };
   sound = e.sound (s.lawful shared_and_logged_loose refl refl);
   memory = has-memory p im.layout e.image.sizes;
   size = small-image p im e.image s.size;
@@ -59,6 +65,9 @@ is-compiled p im s e = record {
     means loose verified private =
         means-source loose p im (e.meaning loose (s.lawful loose verified private)) (s.forward loose verified private) (s.backward loose verified private)
         (s.weight loose verified private) s.cells places
+
+    by-elements : InEach (λ loose. MeansByElements loose p im)
+    by-elements loose verified private = means-by-elements loose p im (means loose verified private) places
 
 -- three facts of an answer make a fourth
 pub if-ok : {T E : Type 0} (P Q R S : T → Type 0) (result : Result T E) → ((x : T) → P x → Q x → R x → S x) → IfOk result P → IfOk result Q → IfOk result R → IfOk result S

@@ -1,3 +1,4 @@
+mod ByElements
 mod Compiled
 mod Examples
 mod MeaningKept

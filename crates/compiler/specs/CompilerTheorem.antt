@@ -2,7 +2,7 @@
 use Rattle.std.specs.Prelude.{◌≡◌, ◌≢◌, ℕ, ◌+◌, ◌*◌, ◌≤◌, Bool, List, map, Option, Some, None}
 use Rattle.std.specs.List.{AllByRecursion}
 use Rattle.execution.specs.Run.{Stops, state_of}
-use Rattle.execution.specs.Traffic.{Entry, Extends}
+use Rattle.execution.specs.Traffic.{Element, Entry, Extends}
 use Rattle.execution.specs.Naming.{entry_named, traffic_named}
 use Rattle.regions.specs.declared.Class.{Class}
 use Rattle.regions.specs.declared.Layout.{Layout}
@@ -19,7 +19,7 @@ use Rattle.image_file.specs.declared.Image.{Image}
 use Rattle.image_file.specs.ImageTable.{static_bytes}
 use Rattle.codegen.specs.EmittedImage.{image_run}
 use Rattle.compiler.specs.MemoryUse.{HasMemory, IsSmallImage}
-use Rattle.compiler.specs.Places.{HasPlaces, element_at, place}
+use Rattle.compiler.specs.Places.{HasPlaces, address_of, element_at, place}
 
 -- What the source means with these classes loose, where the words from outside are given for addresses: one at an address is taken
 -- where the source reads the element that lies there. Work and counts are noted.
@@ -63,6 +63,30 @@ pub record MeansSource (loose : Class → Bool) (p : Program) (image : Image) : 
   pub never_refused : (input : List ℕ) (words : List (Entry ℕ)) (steps : ℕ) (why : Why) (state : Ideal) →
       image_run loose image input words steps ≢ Stops (machine.Refused why) state
 
+-- The machine has ended as the source does, and what has come and gone is that of the source, each element by its address.
+pub record EndsAtAddresses (p : Program) (image : Image) (m : Meaning) (end : IdealEnd) (state : Ideal) : Type 0 where
+  pub ending : machine_end m.end ≡ Some end
+  pub traffic : state.traffic ≡ traffic_named (address_of p image.layout) m.traffic
+
+-- The same where the words from outside are given for elements of the source: the machine takes each at the address of its element.
+pub record MeansByElements (loose : Class → Bool) (p : Program) (image : Image) : Type 0 where
+  pub forward : (input : List ℕ) (words : List (Entry Element)) (turns : ℕ) → (mean (noting_all loose) (plain_program p) input words turns).end ≢ source.Turns →
+      (steps : ℕ) × (end : IdealEnd) × (state : Ideal) × (image_run loose image input (map (entry_named (address_of p image.layout)) words) steps ≡ Stops end state)
+      × EndsAtAddresses p image (mean (noting_all loose) (plain_program p) input words turns) end state
+      × (steps ≤ 32 * (mean (noting_all loose) (plain_program p) input words turns).work)
+  pub front : (input : List ℕ) (words : List (Entry Element)) (steps : ℕ) →
+      Extends (state_of (image_run loose image input (map (entry_named (address_of p image.layout)) words) steps)).traffic
+      (traffic_named (address_of p image.layout) (mean (noting_all loose) (plain_program p) input words (64 * (steps + 1))).traffic)
+  pub ended : (input : List ℕ) (words : List (Entry Element)) (steps : ℕ) (end : IdealEnd) (state : Ideal) →
+      image_run loose image input (map (entry_named (address_of p image.layout)) words) steps ≡ Stops end state →
+      EndsAtAddresses p image (mean (noting_all loose) (plain_program p) input words (64 * (steps + 1))) end state
+
+-- for each of the three sets of loose classes
+pub record MeansAtElements (p : Program) (image : Image) : Type 0 where
+  pub unchecked : MeansByElements shared_and_logged_loose p image
+  pub shared : MeansByElements shared_loose p image
+  pub alone : MeansByElements nothing_loose p image
+
 -- The image is compiled from the source: it does what the source means, with the words of shared and of logged variables from outside,
 -- with those of shared variables alone, and with none. It is sound, and not large.
 pub record IsCompiled (p : Program) (image : Image) : Type 0 where
@@ -70,6 +94,7 @@ pub record IsCompiled (p : Program) (image : Image) : Type 0 where
   pub unchecked : MeansSource shared_and_logged_loose p image
   pub shared : MeansSource shared_loose p image
   pub alone : MeansSource nothing_loose p image
+  pub elements : MeansAtElements p image
   -- no instruction is refused, and no byte access goes to an open address, whatever comes from outside
   pub sound : IsSound image.layout (static_bytes image) image.entry
   pub memory : HasMemory p image.layout
