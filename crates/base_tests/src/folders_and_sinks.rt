@@ -1,5 +1,7 @@
 //! Folders and sinks in memory and of the host, with their faults.
-use aegis_edge::{Folder, FolderError, HostFolder, HostSink, MemFolder, MemSink, NeverFails, Sink, SinkFault};
+use aegis_edge::{
+    Folder, FolderError, HostFolder, HostSink, MemFolder, MemSink, NeverFails, Sink, SinkFault,
+};
 use std::io::{self, Write};
 use std::test::Fail;
 use std::{env, fs, process};
