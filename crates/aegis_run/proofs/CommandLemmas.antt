@@ -7,6 +7,7 @@ use Rattle.c_grammar.specs.declared.item.Program.{Program}
 use Rattle.c_resolver.specs.Resolving.{plain_program}
 use Rattle.c_semantics.specs.Meaning.{Meaning, mean_alone}
 use Rattle.aegis_edge.specs.Folder.{AsksOne}
+use Rattle.aegis_words.specs.declared.file.File.TheVariants as kinds
 use Rattle.aegis_words.specs.declared.file.File.TheVariants.{Source, Script, Input}
 use Rattle.aegis_words.specs.CommandTable.{Command}
 use Rattle.aegis_words.specs.CommandTable as asks
@@ -16,7 +17,7 @@ use Rattle.aegis_words.specs.MeanWordRow.{MeanNames}
 use Rattle.aegis_words.specs.RunWordRow.{RunNames}
 use Rattle.aegis_run.specs.declared.ends.End.TheVariants as run
 use Rattle.aegis_run.specs.declared.ends.TopEnd.{TopEnd}
-use Rattle.aegis_run.specs.declared.ends.TopEnd.TheVariants.{Run, Mean, Usage, TooLong, Token, Syntax, Typing, NotYet, NoFile, ReadFault, WriteFault, OutOfMemory}
+use Rattle.aegis_run.specs.declared.ends.TopEnd.TheVariants.{Run, Mean, Done, Usage, TooLong, Token, Syntax, Typing, Plan, Image, NotYet, NoFile, ReadFault, WriteFault, OutOfMemory}
 use Rattle.aegis_run.specs.Causes.{Stops, CauseAt, CauseAtFile, IsAnswered}
 use Rattle.aegis_run.specs.Code.{SendsOnly}
 use Rattle.aegis_run.specs.Literals.{literals_of, released}
@@ -41,9 +42,12 @@ refused_text files command name text before now (Syntax error) stops read cause 
 refused_text files command name text before now (Typing error) stops read cause = record { text = text; read = read; fault = stops (Typing error) cause }
 refused_text files command name text before now OutOfMemory stops read cause = tt
 refused_text files command name text before now Usage stops read cause = absurd cause
+refused_text files command name text before now Done stops read cause = absurd cause
 refused_text files command name text before now (TooLong file) stops read cause = absurd cause
 refused_text files command name text before now (NoFile file) stops read cause = absurd cause
 refused_text files command name text before now (NotYet file) stops read cause = absurd cause
+refused_text files command name text before now (Plan error) stops read cause = absurd cause
+refused_text files command name text before now (Image error) stops read cause = absurd cause
 refused_text files command name text before now ReadFault stops read cause = absurd cause
 refused_text files command name text before now WriteFault stops read cause = absurd cause
 refused_text files command name text before now (Run end) stops read cause = absurd cause
@@ -55,8 +59,11 @@ run_stops names text (Token error) fault = fault
 run_stops names text (Syntax error) fault = fault
 run_stops names text (Typing error) fault = fault
 run_stops names text (NotYet file) fault = absurd fault
+run_stops names text (Plan error) fault = absurd fault
+run_stops names text (Image error) fault = absurd fault
 run_stops names text OutOfMemory fault = absurd fault
 run_stops names text Usage fault = absurd fault
+run_stops names text Done fault = absurd fault
 run_stops names text (TooLong file) fault = absurd fault
 run_stops names text (NoFile file) fault = absurd fault
 run_stops names text ReadFault fault = absurd fault
@@ -81,11 +88,15 @@ not_run files names name text slice before now program (NotYet Source) read same
     record { text = text; read = read; fault = (program, subst P same is, cause) }
 not_run files names name text slice before now program (NotYet Script) read same is cause = absurd cause
 not_run files names name text slice before now program (NotYet Input) read same is cause = absurd cause
+not_run files names name text slice before now program (NotYet kinds.Image) read same is cause = absurd cause
 not_run files names name text slice before now program OutOfMemory read same is cause = tt
 not_run files names name text slice before now program (Token error) read same is cause = absurd cause
 not_run files names name text slice before now program (Syntax error) read same is cause = absurd cause
 not_run files names name text slice before now program (Typing error) read same is cause = absurd cause
 not_run files names name text slice before now program Usage read same is cause = absurd cause
+not_run files names name text slice before now program Done read same is cause = absurd cause
+not_run files names name text slice before now program (Plan error) read same is cause = absurd cause
+not_run files names name text slice before now program (Image error) read same is cause = absurd cause
 not_run files names name text slice before now program (TooLong file) read same is cause = absurd cause
 not_run files names name text slice before now program (NoFile file) read same is cause = absurd cause
 not_run files names name text slice before now program ReadFault read same is cause = absurd cause
@@ -156,6 +167,7 @@ unwritten end faults silent = record { rose = λ fault. absurd (silent (go end f
     go WriteFault fault = tt
     go (Mean how) fault = tt
     go Usage fault = absurd fault
+    go Done fault = absurd fault
     go OutOfMemory fault = absurd fault
     go (TooLong file) fault = absurd fault
     go (NoFile file) fault = absurd fault
@@ -163,6 +175,8 @@ unwritten end faults silent = record { rose = λ fault. absurd (silent (go end f
     go (Syntax error) fault = absurd fault
     go (Typing error) fault = absurd fault
     go (NotYet file) fault = absurd fault
+    go (Plan error) fault = absurd fault
+    go (Image error) fault = absurd fault
     go ReadFault fault = absurd fault
 
 -- ---- a run that was prepared
@@ -189,12 +203,15 @@ run_answered files names before now old new literals input bytes written written
     go OutOfMemory sends = inr refl
     go (Mean how) sends = absurd sends
     go Usage sends = absurd sends
+    go Done sends = absurd sends
     go (TooLong file) sends = absurd sends
     go (NoFile file) sends = absurd sends
     go (Token error) sends = absurd sends
     go (Syntax error) sends = absurd sends
     go (Typing error) sends = absurd sends
     go (NotYet file) sends = absurd sends
+    go (Plan error) sends = absurd sends
+    go (Image error) sends = absurd sends
     go ReadFault sends = absurd sends
     go WriteFault sends = absurd sends
 
@@ -228,12 +245,15 @@ run_sent files names before now old new literals input written written' end reti
     go OutOfMemory sends counts = sends
     go (Mean how) sends counts = absurd sends
     go Usage sends counts = absurd sends
+    go Done sends counts = absurd sends
     go (TooLong file) sends counts = absurd sends
     go (NoFile file) sends counts = absurd sends
     go (Token error) sends counts = absurd sends
     go (Syntax error) sends counts = absurd sends
     go (Typing error) sends counts = absurd sends
     go (NotYet file) sends counts = absurd sends
+    go (Plan error) sends counts = absurd sends
+    go (Image error) sends counts = absurd sends
     go ReadFault sends counts = absurd sends
     go WriteFault sends counts = absurd sends
 
@@ -245,12 +265,15 @@ run_silent files names (Mean how) retired written silent = refl
 run_silent files names WriteFault retired written silent = refl
 run_silent files names OutOfMemory retired written silent = refl
 run_silent files names Usage retired written silent = refl
+run_silent files names Done retired written silent = refl
 run_silent files names (TooLong file) retired written silent = refl
 run_silent files names (NoFile file) retired written silent = refl
 run_silent files names (Token error) retired written silent = refl
 run_silent files names (Syntax error) retired written silent = refl
 run_silent files names (Typing error) retired written silent = refl
 run_silent files names (NotYet file) retired written silent = refl
+run_silent files names (Plan error) retired written silent = refl
+run_silent files names (Image error) retired written silent = refl
 run_silent files names ReadFault retired written silent = refl
 
 -- ---- a meaning that is told
@@ -266,12 +289,15 @@ mean_answered files names before now old new program input meaning written writt
     go OutOfMemory sends = inr refl
     go (Run how) sends = absurd sends
     go Usage sends = absurd sends
+    go Done sends = absurd sends
     go (TooLong file) sends = absurd sends
     go (NoFile file) sends = absurd sends
     go (Token error) sends = absurd sends
     go (Syntax error) sends = absurd sends
     go (Typing error) sends = absurd sends
     go (NotYet file) sends = absurd sends
+    go (Plan error) sends = absurd sends
+    go (Image error) sends = absurd sends
     go ReadFault sends = absurd sends
 
 pub mean_sent : (files : Option Files) (names : MeanNames) (before now : ℕ) (old new : Option (List Asking)) (program : Program) (input : List ℕ) (written written' : Option (List ℕ)) (end : TopEnd)
@@ -299,12 +325,15 @@ mean_sent files names before now old new program input written written' end read
     go OutOfMemory sends = sends
     go (Run how) sends = absurd sends
     go Usage sends = absurd sends
+    go Done sends = absurd sends
     go (TooLong file) sends = absurd sends
     go (NoFile file) sends = absurd sends
     go (Token error) sends = absurd sends
     go (Syntax error) sends = absurd sends
     go (Typing error) sends = absurd sends
     go (NotYet file) sends = absurd sends
+    go (Plan error) sends = absurd sends
+    go (Image error) sends = absurd sends
     go ReadFault sends = absurd sends
 
 pub mean_silent : (files : Option Files) (names : MeanNames) (end : TopEnd) (written : Option (List ℕ)) → (Writes end → ⊥) → MeanCommand files names end written written
@@ -313,10 +342,13 @@ mean_silent files names WriteFault written silent = absurd (silent tt)
 mean_silent files names (Run how) written silent = refl
 mean_silent files names OutOfMemory written silent = refl
 mean_silent files names Usage written silent = refl
+mean_silent files names Done written silent = refl
 mean_silent files names (TooLong file) written silent = refl
 mean_silent files names (NoFile file) written silent = refl
 mean_silent files names (Token error) written silent = refl
 mean_silent files names (Syntax error) written silent = refl
 mean_silent files names (Typing error) written silent = refl
 mean_silent files names (NotYet file) written silent = refl
+mean_silent files names (Plan error) written silent = refl
+mean_silent files names (Image error) written silent = refl
 mean_silent files names ReadFault written silent = refl

@@ -1,11 +1,14 @@
 -- The definitions on worked examples.
-use Rattle.std.proofs.Common.{◌≡◌, true, false, Some, [], ◌∷◌, ◌++◌, replicate, refl, ap, arith}
+use Rattle.std.proofs.Common.{◌≡◌, true, false, None, Some, [], ◌∷◌, ◌++◌, replicate, refl, ap, arith}
 use Rattle.std.specs.Prelude.{codes}
 use Rattle.std.proofs.lemmas.Fmt.{decimal_digit}
 use Rattle.aegis_words.specs.declared.file.File.TheVariants.{Source, Script}
+use Rattle.aegis_words.specs.declared.file.File.TheVariants as kinds
 use Rattle.aegis_run.specs.declared.ends.End.TheVariants.{Ended}
 use Rattle.c_evaluator.specs.declared.mean_end.MeanEnd.TheVariants as mean
-use Rattle.aegis_run.specs.declared.ends.TopEnd.TheVariants.{Run, Mean, Usage, Token, Syntax, NotYet}
+use Rattle.aegis_run.specs.declared.ends.TopEnd.TheVariants.{Done, Run, Mean, Usage, TooLong, Token, Syntax, Plan, Image, NotYet, NoFile}
+use Rattle.image_file.specs.declared.error.ImageError.TheVariants as image
+use Rattle.region_plan.specs.declared.error.PlanError.TheVariants as plan
 use Rattle.c_token.specs.declared.kinds.TokenError.TheVariants as token
 use Rattle.c_reader.specs.declared.error.SyntaxError.TheVariants as syntax
 use Rattle.aegis_run.specs.Code.{code_of}
@@ -37,6 +40,30 @@ line_of_turns = (refl, refl)
 
 statuses : (status_of (Mean mean.Ended) true ≡ 0) × (status_of (Mean (mean.Index 1)) true ≡ 10) × (status_of (Mean (mean.Divide 1)) true ≡ 11) × (status_of (Mean mean.Turns) true ≡ 30)
 statuses = (refl, refl, refl, refl)
+
+statuses_of_files : (status_of Done true ≡ 0) × (status_of (TooLong kinds.Image) true ≡ 7) × (status_of (Plan (plan.TreeFull 6562)) true ≡ 7) × (status_of (Image image.Magic) true ≡ 8)
+statuses_of_files = (refl, refl, refl, refl)
+
+line_of_plan : (line_of (Plan (plan.TreeFull 7)) 0 ≡ Some (codes "tree full 7\n")) × (line_of (Plan (plan.LogFull 7)) 0 ≡ Some (codes "log full 7\n"))
+    × (line_of (Plan (plan.OpenFull 7)) 0 ≡ Some (codes "open full 7\n"))
+line_of_plan = (
+  ap (λ digits. Some (codes "tree full " ++ digits ++ codes "\n")) (decimal_digit 7 (omega arith)),
+  ap (λ digits. Some (codes "log full " ++ digits ++ codes "\n")) (decimal_digit 7 (omega arith)),
+  ap (λ digits. Some (codes "open full " ++ digits ++ codes "\n")) (decimal_digit 7 (omega arith)),
+)
+
+line_of_image : (line_of (Image (image.Short 7)) 0 ≡ Some (codes "image: short 7\n")) × (line_of (Image (image.Version 2)) 0 ≡ Some (codes "image: version 2\n"))
+    × (line_of (Image (image.Field 8)) 0 ≡ Some (codes "image: field 8\n")) × (line_of (Image (image.Trailing 9)) 0 ≡ Some (codes "image: trailing 9\n"))
+line_of_image = (
+  ap (λ digits. Some (codes "image: short " ++ digits ++ codes "\n")) (decimal_digit 7 (omega arith)),
+  ap (λ digits. Some (codes "image: version " ++ digits ++ codes "\n")) (decimal_digit 2 (omega arith)),
+  ap (λ digits. Some (codes "image: field " ++ digits ++ codes "\n")) (decimal_digit 8 (omega arith)),
+  ap (λ digits. Some (codes "image: trailing " ++ digits ++ codes "\n")) (decimal_digit 9 (omega arith)),
+)
+
+lines_of_lists : (line_of (Image image.Magic) 0 ≡ Some (codes "image: magic\n")) × (line_of Done 0 ≡ None)
+    × (line_of (NoFile kinds.Image) 0 ≡ Some (codes "no file: image\n")) × (line_of (TooLong kinds.Image) 0 ≡ Some (codes "too long: image\n"))
+lines_of_lists = (refl, refl, refl, refl)
 
 line_of_byte : line_of (Token (token.BadByte 5)) 0 ≡ Some (codes "byte 5: bad byte\n")
 line_of_byte = ap (λ digits. Some (codes "byte " ++ digits ++ codes ": bad byte\n")) (decimal_digit 5 (omega arith))

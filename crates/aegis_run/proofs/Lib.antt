@@ -4,6 +4,7 @@ mod CommandLemmas
 mod ContractExamples
 mod Examples
 mod LengthLemmas
+mod ListLemmas
 mod LiteralLemmas
 mod MachineLemmas
 mod MeaningLemmas

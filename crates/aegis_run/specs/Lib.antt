@@ -2,6 +2,7 @@ pub mod Answers
 pub mod Causes
 pub mod Code
 pub mod FilesRead
+pub mod ListCommand
 pub mod Literals
 pub mod MeanCommand
 pub mod Report

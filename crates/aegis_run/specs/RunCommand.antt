@@ -7,7 +7,7 @@ use Rattle.c_grammar.specs.declared.item.Program.{Program}
 use Rattle.c_semantics.specs.Meaning.{Meaning}
 use Rattle.c_semantics.specs.States as outcome
 use Rattle.aegis_words.specs.declared.file.File.{File}
-use Rattle.aegis_words.specs.declared.file.File.TheVariants.{Source, Script, Input}
+use Rattle.aegis_words.specs.declared.file.File.TheVariants.{Source, Script, Input, Image}
 use Rattle.aegis_words.specs.RunWordRow.{RunNames}
 use Rattle.aegis_run.specs.declared.ends.End.TheVariants.{Ended, WriteFault}
 use Rattle.aegis_run.specs.declared.ends.TopEnd.{TopEnd}
@@ -20,11 +20,12 @@ use Rattle.aegis_run.specs.SourceTexts.{IsSource, SourceFault}
 abbrev pub ReleasesLiterals : Program → Type 0
 ReleasesLiterals program = (literals : List ℕ) × (literals_of program ≡ Some literals)
 
--- the text of a file lets a run go on
+-- the text of a file lets a run go on; it reads no image
 abbrev pub ServesRun : File → List ℕ → Type 0
 ServesRun Source text = (program : Program) × IsSource text program × ReleasesLiterals program
 ServesRun Script text = text ≡ []
 ServesRun Input text = Unit {0}
+ServesRun Image text = ⊥
 
 -- why the text of a file stops a run, and which answer says so
 abbrev pub StopsRun : File → List ℕ → TopEnd → Type 0

@@ -5,6 +5,7 @@ mod answer;
 mod compiler;
 mod ends;
 mod files;
+mod list;
 mod literals;
 mod machine;
 mod mean;

@@ -3,11 +3,13 @@
 
 mod digits;
 mod file;
+mod list;
 mod mean;
 mod run;
 mod table;
 
 pub use file::{File, limit};
+pub use list::ListWords;
 pub use mean::MeanWords;
 pub use run::RunWords;
 pub use table::{Command, read_command};
