@@ -16,7 +16,7 @@ use Rattle.aegis_run.specs.declared.ends.TopEnd.TheVariants.{Done, Run, Mean, Us
 use Rattle.aegis_run.specs.Answers.{IsFailure, IsFileFault, IsRefusal, IsWriteFault, RisesWhere}
 use Rattle.aegis_run.specs.Causes.{AreTold, Cause, CauseAt, CauseAtFile, IfList, IfMean, IfRun, IsAnswered, IsOwn, Serves}
 use Rattle.image_file.specs.declared.error.ImageError.TheVariants as errors
-use Rattle.aegis_run.specs.ListCommand.{IsListingOf, ListCommand, ServesList, StopsList}
+use Rattle.aegis_run.specs.ListCommand.{ListCommand, ServesList, StopsList}
 use Rattle.aegis_run.specs.MeanCommand.{MeanCommand, ServesMean, StopsMean}
 use Rattle.aegis_run.specs.Report.{Notes}
 use Rattle.aegis_run.specs.RunCommand.{RunCommand, ServesRun, StopsRun}
