@@ -405,6 +405,38 @@ class Maker:
         self.put(f"& {length - 1}" if length & (length - 1) == 0 else f"% {length}u")
 
 
+class MakerOfMain(Maker):
+    """Makes programs whose one function is `main`, and which have no untrusted function."""
+
+    def program(self):
+        for _ in range(self.chance.randint(2, 9)):
+            self.pick(self.object, self.object, self.object, self.constant)()
+        self.main()
+        return self.tokens
+
+    def main(self):
+        self.open_function("int", "main", 0, False, True)
+        self.body(self.chance.randint(5, 12), 0)
+        self.put("{ unsigned h ; int k ;")
+        self.scopes.append({"h": Node(name="h", kind="other"), "k": Node(name="k", kind="other")})
+        for thing in self.known(lambda thing: thing.kind == "object"):
+            if thing.length:
+                count = min(thing.length, 8)
+                self.put(f"h = 0 ; for ( k = 0 ; k < {count} ; k = k + 1 ) h = h * 31 + {thing.name} [ k ] ;")
+            else:
+                self.put(f"h = {thing.name} ;")
+            self.put("release ( h >> 24 ) ; release ( h >> 16 ) ; release ( h >> 8 ) ; release ( h ) ;")
+        self.scopes.pop()
+        self.put("}")
+        self.put(self.pick("", "return 0 ;", "return 4294967295 ;"))
+        self.close_function()
+
+    def release(self, depth):
+        self.put("release ( (")
+        self.expression(3)
+        self.put(f") {self.pick('', '>> 8', '>> 16', '>> 24')} ) ;")
+
+
 def spelled(chance, tokens):
     """The text of the tokens, with blanks and comments of each kind between them."""
     text = tokens[0]
@@ -419,6 +451,12 @@ def spelled(chance, tokens):
 def make(number):
     """The source of this number."""
     maker = Maker(number)
+    return spelled(maker.chance, maker.program())
+
+
+def make_main(number):
+    """The source of this number among those whose one function is `main`."""
+    maker = MakerOfMain(number)
     return spelled(maker.chance, maker.program())
 
 

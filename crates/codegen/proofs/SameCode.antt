@@ -1,5 +1,5 @@
 -- The code of operations depends on the homes of the cells that they name, and on the numbers of labels.
-use Rattle.std.proofs.Common.{◌≡◌, ℕ, zero, suc, Option, ◌+◌, ◌<◌, Bool, true, false, ◌&&◌, ◌==◌, List, [], ◌∷◌, ◌++◌, length, refl, sym, ap, ◌∙◌, arith}
+use Rattle.std.proofs.Common.{◌≡◌, ℕ, zero, suc, Option, ◌+◌, ◌<◌, true, false, ◌==◌, List, [], ◌∷◌, ◌++◌, length, refl, ap, ◌∙◌, arith}
 use Rattle.std.proofs.lemmas.Bool.Decides.{nat_tests}
 use Rattle.std.specs.List.{slice_get}
 use Rattle.orbis_word.specs.declared.Instr.{Instr}
@@ -8,7 +8,7 @@ use Rattle.ir_code.specs.declared.Cell.{Cell}
 use Rattle.ir_code.specs.declared.Op.{Op}
 use Rattle.ir_code.specs.declared.Op.TheVariants as op
 use Rattle.ir_code.specs.declared.Ir.{Ir}
-use Rattle.ir_code.specs.FlatStates.{words_of, words_in}
+use Rattle.ir_code.specs.FlatStates.{words_in}
 use Rattle.ir_code.specs.Lawful.{HasForm, all_hold, named_by, is_scalar, is_there}
 use Rattle.ir_code.specs.OpTable.{targets, sources, loaded, stored, link_cells}
 use Rattle.codegen.specs.OpInstructions.{Sites, instructions_of, read_into, keep, number, indexed, lower, trapped, on_one, on_two, distance}

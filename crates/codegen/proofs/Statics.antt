@@ -64,6 +64,41 @@ constants-small (cell ∷ cells) h = all-join (λ word. word < 2 ^ 32) (cond (is
     go true = h.0
     go false = tt
 
+all-front : (P : ℕ → Type 0) (xs ys : List ℕ) → AllByRecursion P (xs ++ ys) → AllByRecursion P xs
+all-front P [] ys all = tt
+all-front P (x ∷ xs) ys all = (all.0, all-front P xs ys all.1)
+
+all-back : (P : ℕ → Type 0) (xs ys : List ℕ) → AllByRecursion P (xs ++ ys) → AllByRecursion P ys
+all-back P [] ys all = all
+all-back P (x ∷ xs) ys all = all-back P xs ys all.1
+
+none-small : (xs : List ℕ) → length xs ≡ 0 → AllByRecursion (λ word. word < 2 ^ 32) xs
+none-small [] none = tt
+none-small (x ∷ xs) none = absurd (omega (arith, none))
+
+and-first : (s t : Bool) → (s && t) ≡ true → s ≡ true
+and-first true t e = refl
+and-first false t e = e
+
+and-second : (s t : Bool) → (s && t) ≡ true → t ≡ true
+and-second true t e = e
+and-second false t e = absurd (grind (arith, e))
+
+-- where the constants are words, so are the first words of all cells, as only constants have some
+pub first-words : (cells : List Cell) → all_hold has_first cells ≡ true → AllByRecursion (λ word. word < 2 ^ 32) (constant_words cells) → HasFirstWords cells
+first-words [] firsts all = tt
+first-words (cell ∷ cells) firsts all = (
+  go (is_constant cell.class) (and-first (has_first cell) (all_hold has_first cells) firsts)
+      (all-front (λ word. word < 2 ^ 32) (cond (is_constant cell.class) cell.first []) (constant_words cells) all),
+  first-words cells (and-second (has_first cell) (all_hold has_first cells) firsts)
+      (all-back (λ word. word < 2 ^ 32) (cond (is_constant cell.class) cell.first []) (constant_words cells) all),
+)
+  where
+    go : (t : Bool) → cond t (length cell.first == cell.words) (length cell.first == 0) ≡ true → AllByRecursion (λ word. word < 2 ^ 32) (cond t cell.first []) →
+        AllByRecursion (λ word. word < 2 ^ 32) cell.first
+    go true e own = own
+    go false e own = none-small cell.first (eqb-true (length cell.first) 0 e)
+
 -- the words of an image's bytes
 pub image-words : (cells : List Cell) (n : ℕ) (code : List ℕ) → HasFirstWords cells → AllByRecursion (λ word. word < 2 ^ 32) code →
     words_in (bytes_of (constant_words cells ++ replicate n 0) ++ bytes_of code) ≡ (constant_words cells ++ replicate n 0) ++ code

@@ -1,12 +1,11 @@
 -- The tables of a writer agree with where things are.
-use Rattle.std.proofs.Common.{◌≡◌, ℕ, zero, suc, ◌+◌, ◌*◌, ◌^◌, ◌<◌, ◌≤◌, Bool, true, List, [], ◌∷◌, length, get_or, Option, Some, None, ◌⊎◌, inl, inr, refl, sym, ap, ◌∙◌, arith, map, replicate, ◌-◌, ◌++◌, length-append}
+use Rattle.std.proofs.Common.{◌≡◌, ℕ, zero, suc, ◌*◌, ◌^◌, ◌<◌, ◌≤◌, true, List, [], ◌∷◌, length, get_or, Option, Some, ◌⊎◌, inl, inr, refl, sym, ap, ◌∙◌, arith, map, replicate, ◌-◌, ◌++◌, length-append}
 use Rattle.std.proofs.lemmas.List.{length-map, length-replicate}
 use Rattle.orbis_word.specs.Reading.{instruction_in}
 use Rattle.orbis_word.specs.declared.Instr.{Instr}
 use Rattle.orbis_word.specs.declared.Instr.TheVariants.{Nop}
 use Rattle.std.proofs.lemmas.Option.{get_or_from_slice_get}
 use Rattle.std.specs.Prelude.{slice_index, unwrap_or, nat_eq}
-use Rattle.std.specs.List.{slice_get}
 use Rattle.std.specs.HashMap.{get}
 use Rattle.regions.specs.declared.Layout.{Layout}
 use Rattle.ir_code.specs.declared.Ir.{Ir}

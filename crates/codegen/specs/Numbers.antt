@@ -1,5 +1,5 @@
 -- Device: what the tables of a writer of code tell.
-use Rattle.std.specs.Prelude.{◌≡◌, ℕ, ◌+◌, ◌^◌, ◌<◌, nat_eq, nat_lt, true, cond, List, [], ◌∷◌, map, ◌++◌, slice_index, unwrap_or, Option, Some, None}
+use Rattle.std.specs.Prelude.{◌≡◌, ℕ, ◌+◌, ◌^◌, ◌<◌, nat_eq, nat_lt, true, cond, List, [], ◌∷◌, slice_index, unwrap_or, Option, Some, None}
 use Rattle.std.specs.HashMap.{get}
 use Rattle.ir_code.specs.declared.Op.{Op}
 use Rattle.ir_code.specs.FlatStates.{is_label}

@@ -43,11 +43,12 @@ fn push_zeros(words: &mut Vec<u32>, count: usize) -> Result<(), OutOfMemory>
 }
 
 /// The bytes of some words, the greatest byte first.
-fn bytes_of(alloc: Global, words: &[u32]) -> Result<Vec<u8>, OutOfMemory>
-    ensures { IfOk result (λ bytes. bytes.items ≡ bytes_of words.now) }
+fn bytes_of(alloc: Global, words: Vec<u32>) -> Result<Vec<u8>, OutOfMemory>
+    ensures words { AllByRecursion (λ word. word < 2 ^ 32) words.items }
+    ensures bytes { IfOk result (λ bytes. bytes.items ≡ bytes_of words.items) }
 {
     let mut bytes = Vec::new(alloc);
-    for word in words {
+    for word in words.as_slice() {
         bytes.extend_from_slice(&word.to_be_bytes())?;
     }
     Ok(bytes)
@@ -70,9 +71,11 @@ pub fn constant_bytes(
     ensures value { IfOk result (λ constants. constants ≡ bytes_of (constant_words cells.now
         ++ replicate (16 * blocks - length (constant_words cells.now)) 0)) }
     ensures bytes { IfOk result (AllByRecursion (λ byte. byte < 2 ^ 8)) }
+    ensures words { IfOk result (λ _. AllByRecursion (λ word. word < 2 ^ 32)
+        (constant_words cells.now)) }
 {
     let mut words = words_in(alloc, cells)?;
     let missing = (16 * blocks as usize).saturating_sub(words.len());
     push_zeros(&mut words, missing)?;
-    Ok(constants_of(bytes_of(alloc, words.as_slice())?))
+    Ok(constants_of(bytes_of(alloc, words)?))
 }

@@ -13,7 +13,7 @@ ghost use Rattle.orbis_core.specs.Soundness.{IsSound};
 ghost use Rattle.regions.specs.LooseClasses.{shared_and_logged_loose};
 ghost use Rattle.regions.specs.declared.Class.{Class as SomeClass};
 ghost use Rattle.codegen.specs.ImageCode.{code_blocks, code_from, code_size};
-ghost use Rattle.codegen.specs.EmittedImage.{HasFirstWords, IsImageOf, MeansCode};
+ghost use Rattle.codegen.specs.EmittedImage.{IsImageOf, MeansCode};
 ghost use Rattle.codegen.specs.EmitFaults.{emit_error};
 ghost use Rattle.codegen.specs.Numbers.{sites_in, AreLow};
 
@@ -99,9 +99,8 @@ pub fn emit(alloc: Global, ir: &Ir) -> Result<Image, EmitError>
 
     // Where the code is lawful it does what the code means, and it is sound.
     ensures meaning { IfOk result (λ image. (loose : SomeClass → Bool) → IsLawful loose ir.now
-        → HasFirstWords ir.now.cells → MeansCode loose ir.now image) }
+        → MeansCode loose ir.now image) }
     ensures sound { IfOk result (λ image. IsLawful shared_and_logged_loose ir.now
-        → HasFirstWords ir.now.cells
         → IsSound image.layout (static_bytes image) image.entry) }
 
     // A limit that is passed is told. Else only memory can be wanting.

@@ -1,16 +1,15 @@
 -- Promise: what the flat code of a source has in common with what the source means.
-use Rattle.std.specs.Prelude.{◌≡◌, ◌≢◌, ℕ, ◌+◌, ◌*◌, ◌≤◌, Bool, false, List, length, map, Some}
+use Rattle.std.specs.Prelude.{◌≡◌, ◌≢◌, ℕ, ◌+◌, ◌*◌, ◌≤◌, Bool, false, true, List, length, map, Some}
 use Rattle.execution.specs.Run.{Stops, state_of}
 use Rattle.execution.specs.Traffic.{Element, Entry, Extends}
 use Rattle.execution.specs.Naming.{entry_named, traffic_named}
 use Rattle.regions.specs.declared.rights.Access.{Access}
 use Rattle.regions.specs.declared.rights.Class.{Class}
-use Rattle.regions.specs.declared.rights.Class.TheVariants.{Private}
-use Rattle.regions.specs.LooseClasses.{shared_loose, shared_and_logged_loose}
+use Rattle.regions.specs.declared.rights.Class.TheVariants.{Private, Verified}
 use Rattle.c_grammar.specs.declared.item.Program.{Program}
 use Rattle.c_semantics.specs.States as source
 use Rattle.c_semantics.specs.Meaning.{Meaning, mean, noting_all}
-use Rattle.c_semantics.specs.ProgramShape.{declared_tokens}
+use Rattle.c_semantics.specs.ProgramShape.{declared_tokens, is_among}
 use Rattle.c_resolver.specs.Resolving.{plain_program}
 use Rattle.c_meaning.specs.SourceNodes.{items_count}
 use Rattle.ir_code.specs.declared.code.Ir.{Ir}
@@ -22,9 +21,10 @@ use Rattle.lowering.specs.CellLaws.{HasCells}
 use Rattle.lowering.specs.LoweringLaws.{flat_end}
 use Rattle.lowering.specs.Sizes.{temporary_cells, weight_of_all}
 
--- with shared and logged words loose, and with shared words alone
-abbrev pub InBoth : ((Class → Bool) → Type 0) → Type 0
-InBoth Holds = Holds shared_and_logged_loose × Holds shared_loose
+-- With words of these classes loose, whatever they are, but not verified and private ones, in which functions keep their own variables:
+-- so with shared and logged words loose, with shared words alone, and with none.
+abbrev pub InEach : ((Class → Bool) → Type 0) → Type 0
+InEach Holds = (is_loose : Class → Bool) → is_loose Verified ≡ false → is_loose Private ≡ false → Holds is_loose
 
 -- the element of the source that an element of a cell stands for
 abbrev pub name_in : Program → Element → Element
@@ -71,11 +71,13 @@ pub record IsSmallCode (p : Program) (ir : Ir) : Type 0 where
 -- A private cell is touched in the private mode alone: a run that touched one outside of it would be stuck, and none is.
 pub record GuardsPrivate (ir : Ir) : Type 0 where
   pub stuck : (access : Access) (c i : ℕ) (next : Later) (f : FlatState) → class_of ir c ≡ Private → f.private ≡ false → touching ir access c i next f ≡ Stops Stuck f
-  pub never : InBoth (λ is_loose. IsNeverStuck is_loose ir)
+  pub never : InEach (λ is_loose. IsNeverStuck is_loose ir)
 
 -- The cells are those of the source's objects in order, with class, words and first words, and then for each function in order those of its
--- parameters, its locals, its link and its temporaries, which are private where the function is.
+-- parameters, its locals, its link and its temporaries, which are private where the function is. Each element of the source has a cell that
+-- stands for it, and an element of a declared variable has no other.
 pub record HasSourceCells (p : Program) (ir : Ir) : Type 0 where
   pub cells : ir.cells ≡ cells_of (plain_program p)
   pub listed : HasCells (plain_program p)
   pub named : (e : Element) → name_in p (cell_element (plain_program p) e) ≡ e
+  pub only : (e other : Element) → is_among (declared_tokens (plain_program p)) e.variable ≡ true → name_in p other ≡ e → other ≡ cell_element (plain_program p) e

@@ -1,4 +1,4 @@
-use Rattle.std.proofs.Common.{List, [], Bool, cond, ℕ, ap, sym}
+use Rattle.std.proofs.Common.{[], Bool, cond, ap, sym}
 use Rattle.codegen.proofs.ConstantSizes.{not-constant}
 use Rattle.codegen.proofs.constants.words_of.Goals as goal
 

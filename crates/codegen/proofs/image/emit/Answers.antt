@@ -5,12 +5,15 @@ use Rattle.std.specs.HashMap.{get}
 use Rattle.ir_code.specs.declared.Cell.{Cell}
 use Rattle.ir_code.specs.declared.Op.{Op}
 use Rattle.region_plan.specs.Homes.{HasHomes, HasSizes}
+use Rattle.std.specs.List.{AllByRecursion}
+use Rattle.codegen.specs.EmittedImage.{HasFirstWords}
 use Rattle.codegen.specs.ImageCode.{code_blocks, code_size, constant_words, entry_of}
 use Rattle.codegen.specs.Numbers.{AreLow, label_number, sites_in}
 use Rattle.codegen.proofs.CodeSizes.{offset_of-below, offset_of-take}
 use Rattle.codegen.proofs.ConstantSizes.{length-constant_bytes}
 use Rattle.codegen.proofs.Imaging.{images-mean-code}
 use Rattle.codegen.proofs.Plain.{images-are-sound}
+use Rattle.codegen.proofs.Statics.{first-words}
 use Rattle.codegen.proofs.TablePlaces.{are-low, length-words, placed-words}
 use Rattle.codegen.proofs.image.emit.Goals as goal
 use Rattle.codegen.proofs.image.emit.Goals.{After-as_slice, After-code_size-entry}
@@ -75,9 +78,15 @@ returns-clause-image c =
     }
 
 pub returns-clause-meaning : goal.returns-clause-meaning
-returns-clause-meaning c = λ loose lawful first.
+returns-clause-meaning c = λ loose lawful.
+    let first : HasFirstWords c.args.ir.now.cells =
+    first-words c.args.ir.now.cells c.requires.first
+    (subst (λ (cells : List Cell). AllByRecursion (λ word. word < 2 ^ 32) (constant_words cells)) c.as_slice-2.ensures c.in_ok-constants.ensures.words) in
     images-mean-code loose c.args.ir.now _ lawful first (returns-clause-image c) (record { constants = c.in_ok-constants.ensures.bytes; code = c.in_ok-code.ensures.words })
 
 pub returns-clause-sound : goal.returns-clause-sound
-returns-clause-sound c = λ lawful first.
+returns-clause-sound c = λ lawful.
+    let first : HasFirstWords c.args.ir.now.cells =
+    first-words c.args.ir.now.cells c.requires.first
+    (subst (λ (cells : List Cell). AllByRecursion (λ word. word < 2 ^ 32) (constant_words cells)) c.as_slice-2.ensures c.in_ok-constants.ensures.words) in
     images-are-sound c.args.ir.now _ lawful first (returns-clause-image c) (record { constants = c.in_ok-constants.ensures.bytes; code = c.in_ok-code.ensures.words })

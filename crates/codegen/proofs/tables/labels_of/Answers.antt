@@ -1,9 +1,8 @@
-use Rattle.std.proofs.Common.{◌≡◌, ◌-◌, ◌+◌, ◌∙◌, sym, ap, arith, cond, Bool, Option, Some}
+use Rattle.std.proofs.Common.{◌-◌, ◌∙◌, sym, ap, arith, cond, Bool, Some}
 use Rattle.std.specs.Prelude.{nat_eq}
 use Rattle.std.specs.HashMap.{get}
 use Rattle.ir_code.specs.declared.Op.TheVariants.{Const}
 use Rattle.ir_code.specs.FlatStates.{is_label}
-use Rattle.codegen.proofs.CodeSizes.{code_size-more}
 use Rattle.codegen.proofs.LabelNumbers.{code_size-before, labels-more, not-label, nat_eq-sym}
 use Rattle.codegen.proofs.tables.labels_of.Goals as goal
 

@@ -1,0 +1,7 @@
+mod Compiled
+mod Examples
+mod MeaningKept
+mod Measured
+mod Placed
+mod SharedPlaces
+mod Written

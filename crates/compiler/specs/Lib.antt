@@ -1,0 +1,3 @@
+pub mod CompilerTheorem
+pub mod MemoryUse
+pub mod Places
