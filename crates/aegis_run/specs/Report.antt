@@ -3,6 +3,7 @@ use Rattle.std.specs.Prelude.{◌≡◌, ℕ, Bool, true, false, List, ◌++◌,
 use Rattle.aegis_edge.specs.Sink.{Appends, AppendsFront}
 use Rattle.aegis_words.specs.declared.file.File.{File}
 use Rattle.aegis_words.specs.declared.file.File.TheVariants as file
+use Rattle.aegis_run.specs.declared.ends.End.{End}
 use Rattle.aegis_run.specs.declared.ends.End.TheVariants as run
 use Rattle.aegis_run.specs.declared.ends.TopEnd.{TopEnd}
 use Rattle.aegis_run.specs.declared.ends.TopEnd.TheVariants.{Done, Run, Mean, Usage, TooLong, Token, Syntax, Typing, Plan, Image, NotYet, NoFile, ReadFault, WriteFault, OutOfMemory}
@@ -30,6 +31,9 @@ status_when_noted (Typing error) = 2
 status_when_noted (NoFile file) = 4
 status_when_noted ReadFault = 4
 status_when_noted (Run run.WriteFault) = 5
+status_when_noted (Run (run.Index at)) = 10
+status_when_noted (Run (run.Divide at)) = 11
+status_when_noted (Run (run.FuelOut count)) = 30
 status_when_noted OutOfMemory = 6
 status_when_noted (TooLong file) = 7
 status_when_noted (Plan error) = 7
@@ -108,13 +112,20 @@ meaning_line (mean.Index at) = place_line (codes "index token ") at (codes "\n")
 meaning_line (mean.Divide at) = place_line (codes "divide token ") at (codes "\n")
 meaning_line mean.Turns = codes "turns\n"
 
+-- the line of a run that ends so after so many instructions
+abbrev pub run_line : End → ℕ → List ℕ
+run_line run.Ended retired = codes "ended retired " ++ decimal retired ++ codes " events 0\n"
+run_line (run.Index at) retired = codes "index token " ++ decimal at ++ codes " retired " ++ decimal retired ++ codes " events 0\n"
+run_line (run.Divide at) retired = codes "divide token " ++ decimal at ++ codes " retired " ++ decimal retired ++ codes " events 0\n"
+run_line (run.FuelOut count) retired = codes "fuel retired " ++ decimal retired ++ codes " events 0\n"
+run_line run.WriteFault retired = codes "write fault\n"
+
 -- the line of an answer, and of a run after so many instructions, where the answer has one
 abbrev pub line_of : TopEnd → ℕ → Option (List ℕ)
 line_of Done retired = None
-line_of (Run run.Ended) retired = Some (codes "ended retired " ++ decimal retired ++ codes " events 0\n")
-line_of (Run run.WriteFault) retired = Some (codes "write fault\n")
+line_of (Run end) retired = Some (run_line end retired)
 line_of (Mean end) retired = Some (meaning_line end)
-line_of Usage retired = Some (codes "usage: run SOURCE SCRIPT INPUT FUEL KEY NONCE, mean SOURCE INPUT TURNS, list IMAGE\n")
+line_of Usage retired = Some (codes "usage: run SOURCE SCRIPT INPUT FUEL KEY NONCE, mean SOURCE INPUT TURNS, build SOURCE, list IMAGE\n")
 line_of (TooLong file) retired = Some (codes "too long: " ++ file_word file ++ codes "\n")
 line_of (Token error) retired = Some (token_line error)
 line_of (Syntax error) retired = Some (syntax_line error)

@@ -2,11 +2,13 @@
 ghost use Rattle.std.specs.Prelude.{◌≡◌, None};
 ghost use Rattle.aegis_words.specs.CommandTable.{command_in};
 ghost use Rattle.aegis_run.specs.Answers.{IsFileFault, IsWriteFault, RisesWhere};
-ghost use Rattle.aegis_run.specs.Causes.{Cause, IfList, IfMean, IfRun};
+ghost use Rattle.aegis_run.specs.Causes.{Cause, IfBuild, IfList, IfMean, IfRun};
+ghost use Rattle.aegis_run.specs.BuildCommand.{BuildCommand};
 ghost use Rattle.aegis_run.specs.ListCommand.{ListCommand};
 ghost use Rattle.aegis_run.specs.MeanCommand.{MeanCommand};
 ghost use Rattle.aegis_run.specs.RunCommand.{RunCommand};
 
+use crate::build::answer_build;
 use crate::ends::TopEnd;
 use crate::list::answer_list;
 use crate::mean::answer_mean;
@@ -40,6 +42,8 @@ pub fn answer_words<F: Folder, K: Sink>(
         (K.written out.old) (K.written out.new)) }
     ensures mean { IfMean (command_in words.now) (λ names.
         MeanCommand (F.files folder.old) names result.end (K.written out.old) (K.written out.new)) }
+    ensures build { IfBuild (command_in words.now) (λ names.
+        BuildCommand (F.files folder.old) names result.end (K.written out.old) (K.written out.new)) }
     ensures list { IfList (command_in words.now) (λ names.
         ListCommand (F.files folder.old) names result.end (K.written out.old) (K.written out.new)) }
     ensures silent { command_in words.now ≡ None → K.written out.new ≡ K.written out.old }
@@ -50,6 +54,10 @@ pub fn answer_words<F: Folder, K: Sink>(
         Some(Command::Run(names)) => answer_run(alloc, &names, folder, out),
         Some(Command::Mean(names)) => Outcome {
             end: answer_mean(alloc, &names, folder, out),
+            retired: 0,
+        },
+        Some(Command::Build(names)) => Outcome {
+            end: answer_build(alloc, &names, folder, out),
             retired: 0,
         },
         Some(Command::Listing(names)) => Outcome {

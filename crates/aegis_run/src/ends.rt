@@ -1,6 +1,6 @@
 //! The answers of the program and their exit statuses.
 ghost use Rattle.std.specs.Prelude.{◌≡◌};
-ghost use Rattle.aegis_run.specs.FilesRead.{end_of_token, end_of_syntax, end_of_type, end_of_image};
+ghost use Rattle.aegis_run.specs.FilesRead.{end_of_token, end_of_syntax, end_of_type, end_of_emit, end_of_image, end_of_run};
 ghost use Rattle.aegis_run.specs.Report.{status_when_noted, status_of as status_of_answer};
 
 use aegis_words::File;
@@ -8,6 +8,8 @@ use c_meaning::MeanEnd;
 use c_reader::SyntaxError;
 use c_token::TokenError;
 use c_types::TypeError;
+use compiled_run::{ImageEnd, Ran};
+use compiler::EmitError;
 use image_file::ImageError;
 use region_plan::PlanError;
 
@@ -16,8 +18,29 @@ use region_plan::PlanError;
 pub enum End {
     /// The program came to its end, and every released byte was taken.
     Ended,
+    /// An index was not below the length of its array; `at` is the number of the token `[`.
+    Index { at: u32 },
+    /// A divisor was zero; `at` is the number of the operator's token.
+    Divide { at: u32 },
+    /// As many instructions were done as the fuel allows, and the program had not ended.
+    FuelOut { retired: u64 },
     /// A released byte was not taken.
     WriteFault,
+}
+
+/// How a run of an image ended, after so many instructions.
+pub fn end_of(ran: Ran) -> End
+    ensures { result ≡ end_of_run ran.end ran.retired }
+{
+    match ran.end {
+        ImageEnd::Ended => End::Ended,
+        ImageEnd::Index { at } => End::Index { at },
+        ImageEnd::Divide { at } => End::Divide { at },
+        ImageEnd::FuelOut => End::FuelOut {
+            retired: ran.retired,
+        },
+        ImageEnd::WriteFault => End::WriteFault,
+    }
 }
 
 /// The answer of the program. Want of memory is `OutOfMemory` alone, and never that of `Token`, `Syntax`,
@@ -100,6 +123,17 @@ impl From<TypeError> for TopEnd {
     }
 }
 
+impl From<EmitError> for TopEnd {
+    ghost from_gives = { λ error end. end ≡ end_of_emit error };
+
+    fn from(error: EmitError) -> TopEnd {
+        match error {
+            EmitError::Plan(error) => TopEnd::Plan(error),
+            EmitError::OutOfMemory => TopEnd::OutOfMemory,
+        }
+    }
+}
+
 impl From<ImageError> for TopEnd {
     ghost from_gives = { λ error end. end ≡ end_of_image error };
 
@@ -132,8 +166,8 @@ fn status_of_noted(end: &TopEnd) -> u8
         TopEnd::TooLong(_) | TopEnd::Plan(_) => 7,
         TopEnd::Image(_) => 8,
         TopEnd::NotYet(_) => 9,
-        TopEnd::Mean(MeanEnd::Index { .. }) => 10,
-        TopEnd::Mean(MeanEnd::Divide { .. }) => 11,
-        TopEnd::Mean(MeanEnd::Turns) => 30,
+        TopEnd::Run(End::Index { .. }) | TopEnd::Mean(MeanEnd::Index { .. }) => 10,
+        TopEnd::Run(End::Divide { .. }) | TopEnd::Mean(MeanEnd::Divide { .. }) => 11,
+        TopEnd::Run(End::FuelOut { .. }) | TopEnd::Mean(MeanEnd::Turns) => 30,
     }
 }

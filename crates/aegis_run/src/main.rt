@@ -2,12 +2,10 @@
 #![tactic(auto)]
 
 mod answer;
-mod compiler;
+mod build;
 mod ends;
 mod files;
 mod list;
-mod literals;
-mod machine;
 mod mean;
 mod report;
 mod run;

@@ -1,7 +1,7 @@
 //! The line of an answer on the notes.
-ghost use Rattle.std.specs.Prelude.{◌≡◌, ◌+◌, ◌≤◌, ◌++◌, length, decimal};
+ghost use Rattle.std.specs.Prelude.{◌≡◌, ◌+◌, ◌≤◌, ◌++◌, length, codes, decimal};
 ghost use Rattle.std.specs.Option.{option_map};
-ghost use Rattle.aegis_run.specs.Report.{line_of, meaning_line, file_word, image_line, place_line, plan_line, syntax_line, token_line, type_line};
+ghost use Rattle.aegis_run.specs.Report.{line_of, meaning_line, file_word, image_line, place_line, plan_line, run_line, syntax_line, token_line, type_line};
 
 use crate::ends::{End, TopEnd};
 use aegis_words::File;
@@ -17,7 +17,7 @@ use region_plan::PlanError;
 /// The words of the commands.
 const USAGE_OF_RUN: &str = "usage: run SOURCE SCRIPT INPUT FUEL KEY NONCE";
 
-const USAGE_OF_THE_OTHERS: &str = ", mean SOURCE INPUT TURNS, list IMAGE";
+const USAGE_OF_THE_OTHERS: &str = ", mean SOURCE INPUT TURNS, build SOURCE, list IMAGE";
 
 /// A line with its line feed.
 pub type Line = ArrayString<256>;
@@ -28,8 +28,7 @@ pub fn report_line(end: &TopEnd, retired: u64) -> Option<Line>
 {
     Some(match end {
         TopEnd::Done => return None,
-        TopEnd::Run(End::Ended) => line_with("ended retired ", retired, " events 0\n"),
-        TopEnd::Run(End::WriteFault) => line_from("write fault", "", "\n"),
+        TopEnd::Run(end) => report_run(*end, retired),
         TopEnd::Mean(end) => report_meaning(*end),
         TopEnd::Usage => line_from(USAGE_OF_RUN, USAGE_OF_THE_OTHERS, "\n"),
         TopEnd::TooLong(file) => line_from("too long: ", file_name(*file), "\n"),
@@ -44,6 +43,32 @@ pub fn report_line(end: &TopEnd, retired: u64) -> Option<Line>
         TopEnd::WriteFault => line_from("write fault", "", "\n"),
         TopEnd::OutOfMemory => line_from("out of memory", "", "\n"),
     })
+}
+
+/// The line of a run that ends so after `retired` instructions.
+fn report_run(end: End, retired: u64) -> Line
+    ensures { result.bytes ≡ run_line end retired }
+{
+    match end {
+        End::Ended => line_with("ended retired ", retired, " events 0\n"),
+        End::Index { at } => line_of_trap("index token ", at, retired),
+        End::Divide { at } => line_of_trap("divide token ", at, retired),
+        End::FuelOut { .. } => line_with("fuel retired ", retired, " events 0\n"),
+        End::WriteFault => line_from("write fault", "", "\n"),
+    }
+}
+
+/// The line of a run that ends at a token.
+fn line_of_trap(front: &str, at: u32, retired: u64) -> Line
+    requires { length front.now ≤ 20 }
+    ensures { result.bytes ≡ front.now ++ decimal at ++ codes " retired " ++ decimal retired ++ codes " events 0\n" }
+{
+    let mut place = Buffer::new();
+    let mut count = Buffer::new();
+    let mut line = line_from(front, place.format(at), " retired ");
+    line.push_str(count.format(retired));
+    line.push_str(" events 0\n");
+    line
 }
 
 /// The line of a meaning that ends so.

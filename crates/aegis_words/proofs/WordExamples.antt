@@ -7,8 +7,9 @@ use Rattle.aegis_words.specs.FileSteps.{limit_for, askings_for}
 use Rattle.aegis_words.specs.NumberWords.{is_number, bound_in, hex_bytes}
 use Rattle.aegis_words.specs.RunWordRow.{RunNames, run_row, run_steps}
 use Rattle.aegis_words.specs.MeanWordRow.{MeanNames, mean_row, mean_steps}
+use Rattle.aegis_words.specs.BuildWordRow.{BuildNames, build_row, build_steps}
 use Rattle.aegis_words.specs.ListWordRow.{ListNames, list_row, list_steps}
-use Rattle.aegis_words.specs.CommandTable.{Run, Mean, Listing, rows, first_fitting, step_after}
+use Rattle.aegis_words.specs.CommandTable.{Run, Mean, Build, Listing, rows, first_fitting, step_after}
 
 -- ---- words
 
@@ -107,6 +108,18 @@ mean_is_no_run = refl
 other_word : first_fitting rows (codes "means" ∷ codes "hi.c" ∷ codes "i" ∷ codes "0" ∷ []) ≡ None
 other_word = refl
 
+abbrev build_names : BuildNames
+build_names = record { source = codes "hi.c" }
+
+build_ordinary : first_fitting rows (codes "build" ∷ codes "hi.c" ∷ []) ≡ Some (Build build_names)
+build_ordinary = refl
+
+build_of_two : build_row (codes "build" ∷ codes "hi.c" ∷ codes "more" ∷ []) ≡ None
+build_of_two = refl
+
+build_without_source : first_fitting rows (codes "build" ∷ []) ≡ None
+build_without_source = refl
+
 abbrev list_names : ListNames
 list_names = record { image = codes "hi.image" }
 
@@ -145,6 +158,12 @@ mean_after_source = refl
 
 mean_after_all : step_after (Mean (mean_names_with 1)) ([] ∷ [] ∷ []) ≡ None
 mean_after_all = refl
+
+build_files : build_steps build_names ≡ record { file = Source; name = codes "hi.c" } ∷ []
+build_files = refl
+
+build_after_all : step_after (Build build_names) ([] ∷ []) ≡ None
+build_after_all = refl
 
 list_files : list_steps list_names ≡ record { file = Image; name = codes "hi.image" } ∷ []
 list_files = refl

@@ -1,3 +1,4 @@
+pub mod BuildWordRow
 pub mod CommandTable
 pub mod FileReading
 pub mod FileSteps

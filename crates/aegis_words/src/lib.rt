@@ -1,6 +1,7 @@
 //! The words of the command line, and the files that they name: a module for each command.
 #![tactic(auto)]
 
+mod build;
 mod digits;
 mod file;
 mod list;
@@ -8,6 +9,7 @@ mod mean;
 mod run;
 mod table;
 
+pub use build::BuildWords;
 pub use file::{File, limit};
 pub use list::ListWords;
 pub use mean::MeanWords;
