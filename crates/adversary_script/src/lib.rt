@@ -20,6 +20,3 @@ pub use error::ScriptError;
 pub use laws::texts_keep_rules;
 pub use reading::read_script;
 pub use script::{Changes, Script};
-
-#[cfg(test)]
-mod tests;

@@ -18,6 +18,3 @@ pub use mem_folder::MemFolder;
 pub use mem_sink::MemSink;
 pub use never_fails::NeverFails;
 pub use sink::{Sink, SinkFault};
-
-#[cfg(test)]
-mod tests;

@@ -59,20 +59,3 @@ impl Sink for NeverFails {
         Ok(())
     }
 }
-
-#[cfg(test)]
-mod tests {
-    use super::*;
-    use std::test::Fail;
-
-    #[test]
-    fn takes_each_piece(rt: HostRuntime) -> Result<(), Fail> {
-        let mut sink = NeverFails::with_room(rt.alloc(), 3)?;
-        assert_eq!(rt; sink.bytes(), b"".as_slice());
-        assert_eq!(rt; sink.write(b"AB"), Ok(()));
-        assert_eq!(rt; sink.bytes(), b"AB".as_slice());
-        assert_eq!(rt; sink.write(b"C"), Ok(()));
-        assert_eq!(rt; sink.bytes(), b"ABC".as_slice());
-        Ok(())
-    }
-}

@@ -14,6 +14,3 @@ pub use name::Name;
 pub use operators::{BinaryOp, UnaryOp};
 pub use stamps::Stamps;
 pub use storage::{Block, Key, Keys, Place};
-
-#[cfg(test)]
-mod tests;

@@ -8,6 +8,3 @@ mod tables;
 
 pub use aes::Aes;
 pub use pads::xor_into;
-
-#[cfg(test)]
-mod tests;

@@ -14,6 +14,3 @@ pub use strings::{
     LOG_KEY_TAG, LOG_TAG, PAD_KEY_TAG, PROGRAM_TAG, TREE_TAG, block_digest, block_string,
     entry_value,
 };
-
-#[cfg(test)]
-mod tests;

@@ -11,6 +11,3 @@ mod run;
 
 pub use mean_end::MeanEnd;
 pub use run::mean_resolved;
-
-#[cfg(test)]
-mod tests;

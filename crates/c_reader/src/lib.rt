@@ -6,8 +6,6 @@ mod item;
 mod laws;
 mod list;
 mod reading;
-#[cfg(test)]
-mod tests;
 
 pub use error::SyntaxError;
 pub use laws::one_program;

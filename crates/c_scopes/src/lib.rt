@@ -8,6 +8,3 @@ mod names;
 pub use declaration::{Binding, Declaration, Entity};
 pub use items::{class_of, declaration_of, local, name_of, token_of};
 pub use names::Names;
-
-#[cfg(test)]
-mod tests;

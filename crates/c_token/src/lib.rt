@@ -7,8 +7,6 @@ mod kinds;
 mod laws;
 mod scanner;
 mod signs;
-#[cfg(test)]
-mod tests;
 mod words;
 
 pub use kinds::{Kind, Token, TokenError};

@@ -14,7 +14,7 @@ use Rattle.off_chip.specs.Histories.{history}
 use Rattle.off_chip.specs.Residency.{is_resident}
 use Rattle.off_chip.specs.WriteBacks.{last_write}
 use Rattle.block_hash.specs.ProgramParts.{HasTaken, ProgramParts}
-use Rattle.hash_tree.specs.Entering.{BlockMove, reads_block, writes_block, move_of, is_static, WritesFirst, StaticEntered, BlocksEntered}
+use Rattle.hash_tree.specs.Entering.{BlockMove, reads_block, writes_block, move_of, is_static, WritesPayload, StaticEntered, BlocksEntered}
 use Rattle.hash_tree.specs.Schemes.{Scheme, unveiled}
 use Rattle.hash_tree.specs.Standing.{NodeLaidOut}
 use Rattle.hash_tree.specs.TreeSteps.{Appends}
@@ -124,7 +124,7 @@ blocks-as layout scheme P Q old_program program moves old new entered to from = 
 
 -- it is written
 pub blocks-write : (layout : Layout) (scheme : Scheme) (program : ProgramParts) (n : ℕ) (payload digest : List ℕ) (old new : List Event)
-    → (back : WritesFirst scheme n payload digest old new) → (0 < n → scheme.digests.parent n ≢ n) → NodeLaidOut scheme (BlockWrite (Tree n) back.block) (history old)
+    → (back : WritesPayload scheme n payload digest old new) → (0 < n → scheme.digests.parent n ≢ n) → NodeLaidOut scheme (BlockWrite (Tree n) back.block) (history old)
     → (scheme.nodes ≤ n → is_static layout n ≡ false → unveiled scheme n back.block ≡ replicate 64 0) → (is_static layout n ≡ true → ⊥)
     → BlocksEntered layout scheme (λ m. m ≡ n) program program (writes_block n ∷ []) old new
 blocks-write layout scheme program n payload digest old new back apart laid zeros other =
@@ -152,7 +152,7 @@ blocks-write layout scheme program n payload digest old new back apart laid zero
 
 -- it is read, and then written
 pub blocks-read : (layout : Layout) (scheme : Scheme) (old_program program : ProgramParts) (n : ℕ) (found_block : Block) (digest : List ℕ) (old middle new : List Event)
-    → Appends (BlockRead (Tree n) found_block) old middle → (back : WritesFirst scheme n found_block.payload digest middle new)
+    → Appends (BlockRead (Tree n) found_block) old middle → (back : WritesPayload scheme n found_block.payload digest middle new)
     → (0 < n → scheme.digests.parent n ≢ n) → NodeLaidOut scheme (BlockWrite (Tree n) back.block) (history middle)
     → unveiled scheme n back.block ≡ found_block.payload → is_static layout n ≡ true → old_program.added ≡ n - first_static layout
     → program.added ≡ old_program.added + 1 → ((payloads : List (List ℕ)) → HasTaken old_program payloads → HasTaken program (payloads ++ found_block.payload ∷ []))

@@ -12,7 +12,7 @@ use Rattle.off_chip.specs.Histories.{history}
 use Rattle.off_chip.specs.WriteBacks.{last_write}
 use Rattle.block_hash.specs.BlockStrings.{block_digest}
 use Rattle.block_hash.specs.ProgramParts.{HasTaken, ProgramParts}
-use Rattle.hash_tree.specs.Entering.{BlockMove, reads_block, writes_block, is_static, leaf_moves, statics_before, WritesFirst, BlocksEntered, SubtreeEntered}
+use Rattle.hash_tree.specs.Entering.{BlockMove, reads_block, writes_block, is_static, leaf_moves, statics_before, WritesPayload, BlocksEntered, SubtreeEntered}
 use Rattle.hash_tree.specs.HashTrees.{nodes_of, scheme_of}
 use Rattle.hash_tree.specs.Schemes.{Scheme, IsLawful, unveiled}
 use Rattle.hash_tree.specs.TreeSteps.{Appends}
@@ -27,7 +27,7 @@ positions-some layout = omega (arith, level_start-three (height_of layout))
 
 pub writes-first : (layout : Layout) (veiled : ℕ → ℕ → List ℕ → List ℕ) → IsLawful (scheme_of layout veiled) → (n stamp : ℕ) (payload left digest : List ℕ) (old new : List Event)
     → left ≡ veiled n stamp payload → length payload ≡ 64 → stamp < 2 ^ 64 → Appends (BlockWrite (Tree n) (record { payload = left; stamp = stamp })) old new
-    → digest ≡ block_digest n (record { payload = left; stamp = stamp }) → WritesFirst (scheme_of layout veiled) n payload digest old new
+    → digest ≡ block_digest n (record { payload = left; stamp = stamp }) → WritesPayload (scheme_of layout veiled) n payload digest old new
 unfolding scheme_of
 writes-first layout veiled lawful n stamp payload left digest old new is long fits event digest_is = record {
   block = record { payload = left; stamp = stamp };
@@ -39,7 +39,7 @@ writes-first layout veiled lawful n stamp payload left digest old new is long fi
 }
 
 -- the digest that is given is that of the last write-back
-pub first-digest : (scheme : Scheme) (n : ℕ) (payload digest : List ℕ) (old new : List Event) → WritesFirst scheme n payload digest old new
+pub first-digest : (scheme : Scheme) (n : ℕ) (payload digest : List ℕ) (old new : List Event) → WritesPayload scheme n payload digest old new
     → (block : Block) → last_write (Tree n) (history new) ≡ Some block → digest ≡ scheme.digests.digest n block
 first-digest scheme n payload digest old new back block found =
     let b : Some block ≡ Some back.block = sym found ∙ write-here n back.block old new back.event in
@@ -51,14 +51,14 @@ parent-less n above same = omega (arith, above, same)
 
 -- what is written of a payload holds it, the veil removed
 holds-payload : (scheme : Scheme) → IsLawful scheme → (n : ℕ) (payload digest : List ℕ) (old new : List Event)
-    → (back : WritesFirst scheme n payload digest old new) → unveiled scheme n back.block ≡ payload
+    → (back : WritesPayload scheme n payload digest old new) → unveiled scheme n back.block ≡ payload
 holds-payload scheme lawful n payload digest old new back =
     ap (λ (xs : List ℕ). scheme.veiled n back.block.stamp xs) back.payload_is ∙ lawful.inverse n back.block.stamp payload back.long
 
 -- ---- a block of the lowest level
 
 pub leaf-other : (layout : Layout) (veiled : ℕ → ℕ → List ℕ → List ℕ) → IsLawful (scheme_of layout veiled) → (program : ProgramParts) (n : ℕ) (digest : List ℕ) (old new : List Event)
-    → nodes_of layout ≤ n → false ≡ is_static layout n → WritesFirst (scheme_of layout veiled) n (replicate 64 0) digest old new
+    → nodes_of layout ≤ n → false ≡ is_static layout n → WritesPayload (scheme_of layout veiled) n (replicate 64 0) digest old new
     → SubtreeEntered layout (scheme_of layout veiled) 0 n program program old new digest
 unfolding scheme_of
 leaf-other layout veiled lawful program n digest old new leaf no' back =
@@ -74,7 +74,7 @@ leaf-other layout veiled lawful program n digest old new leaf no' back =
 
 pub leaf-static : (layout : Layout) (veiled : ℕ → ℕ → List ℕ → List ℕ) → IsLawful (scheme_of layout veiled) → (old_program program : ProgramParts) (n : ℕ) (found : Block) (digest : List ℕ)
     (old middle new : List Event) → nodes_of layout ≤ n → true ≡ is_static layout n → Appends (BlockRead (Tree n) found) old middle
-    → WritesFirst (scheme_of layout veiled) n found.payload digest middle new → old_program.added ≡ statics_before layout n → program.added ≡ old_program.added + 1
+    → WritesPayload (scheme_of layout veiled) n found.payload digest middle new → old_program.added ≡ statics_before layout n → program.added ≡ old_program.added + 1
     → ((payloads : List (List ℕ)) → HasTaken old_program payloads → HasTaken program (payloads ++ found.payload ∷ []))
     → SubtreeEntered layout (scheme_of layout veiled) 0 n old_program program old new digest
 unfolding scheme_of

@@ -1,26 +1,30 @@
 -- What follows where a line is taken out, after it was written back or with a mark.
-use Rattle.std.proofs.Common.{◌≡◌, ℕ, ◌+◌, ◌<◌, false, List, Option, Some, None, refl, sym, ap, ◌∙◌, subst, inl, inr, arith, rules}
+use Rattle.std.proofs.Common.{◌≡◌, ℕ, ◌+◌, ◌<◌, false, List, length, Option, Some, None, refl, sym, ap, ◌∙◌, subst, inl, inr, arith, rules}
 use Rattle.std.specs.Prelude.{◌^◌, is_some, option_map}
 use Rattle.std.specs.FinMap.{get, contains_key, remove, insert, len, gets}
 use Rattle.std.proofs.lemmas.Bool.{cases_eq}
+use Rattle.aegis_num.specs.declared.storage.Block.{Block}
 use Rattle.aegis_num.specs.declared.storage.Place.TheVariants.{Tree}
 use Rattle.regions.specs.declared.layout.Layout.{Layout}
 use Rattle.regions.specs.Tree.{parent_in}
 use Rattle.off_chip.specs.declared.event.Event.{Event}
 use Rattle.off_chip.specs.declared.event.Event.TheVariants.{BlockWrite, Note}
 use Rattle.off_chip.specs.declared.event.Mark.TheVariants.{Drop}
-use Rattle.off_chip.specs.Histories.{history}
+use Rattle.off_chip.specs.Histories.{History, history, in_order, ◌◂◌}
 use Rattle.line_cache.specs.declared.lines.Line.{Line}
-use Rattle.line_cache.specs.LineMaps.{LineMap, Holds, dirty_at, with_clean, clean_line, with_payload}
+use Rattle.line_cache.specs.LineMaps.{LineMap, Holds, dirty_at, payload_at, with_clean, clean_line, with_payload}
 use Rattle.line_cache.proofs.MapLemmas.{get-remove_other, len-held}
-use Rattle.hash_tree.specs.HashTrees.{state_of}
+use Rattle.hash_tree.specs.HashTrees.{scheme_of, state_of}
 use Rattle.hash_tree.specs.Schemes.{Scheme, IsLawful}
 use Rattle.hash_tree.specs.Standing.{State, Stands}
 use Rattle.hash_tree.specs.TreeSteps.{Appends, Puts, WritesBack, write, dropped, Evicted, KeepsDigest}
 use Rattle.hash_tree.proofs.GrowthLemmas.{write-resident}
 use Rattle.hash_tree.proofs.RemoveLemmas.{Removed, leaves-dropped, leaves-written, stands-removed}
-use Rattle.off_chip.specs.WriteBacks.{StampsFit}
-use Rattle.hash_tree.proofs.SchemeLemmas.{line-held}
+use Rattle.off_chip.specs.WriteBacks.{StampsFit, block_writes}
+use Rattle.off_chip.proofs.HistoryLemmas.{history-appended}
+use Rattle.off_chip.proofs.WriteLemmas.{block_writes-write}
+use Rattle.hash_tree.specs.Entering.{WritesPayload}
+use Rattle.hash_tree.proofs.SchemeLemmas.{line-held, writes-back}
 use Rattle.hash_tree.proofs.WriteBackLemmas.{fits-written, stands-written, written-holds, written-leaves, keeps-both}
 use Rattle.hash_tree.proofs.CallLemmas.{held-line, line-holds}
 
@@ -144,3 +148,24 @@ back-fits scheme old new old_last last n back fit next =
 
 pub count-removed : (middle new old : LineMap) (n : ℕ) → new ≡ remove middle n → Holds middle n → len middle ≡ len old → len new + 1 ≡ len old
 count-removed middle new old n same held count = omega (arith, ap (λ (l : LineMap). len l) same, len-removed middle n held, count)
+
+-- ---- a write of the payload of a line
+
+-- the last write has the last stamp
+fits-last : (last n : ℕ) (block : Block) (old new : List Event) → StampsFit last (history new) → Appends (BlockWrite (Tree n) block) old new → block.stamp ≡ last
+fits-last last n block old new fit same =
+    let grown : StampsFit last (BlockWrite (Tree n) block ◂ history old) =
+    subst (λ (h : History). StampsFit last h) (history-appended old new (BlockWrite (Tree n) block) same) fit in
+    let here : block.stamp ≡ block_writes (in_order (history old)) + 1 = grown.each.1 in
+    omega (arith, here, grown.count, block_writes-write (in_order (history old)) (Tree n) block)
+
+pub writes-back_payload : (layout : Layout) (veiled : ℕ → ℕ → List ℕ → List ℕ) (old middle new : LineMap) (old_root new_root : List ℕ) (old_trace new_trace : List Event)
+    (last n : ℕ) (payload digest : List ℕ) → payload_at old n ≡ Some payload → middle ≡ with_clean old n
+    → ((m : ℕ) (line : Line) → get old m ≡ Some line → length line.payload ≡ 64)
+    → WritesPayload (scheme_of layout veiled) n payload digest old_trace new_trace → StampsFit last (history new_trace)
+    → KeepsDigest layout middle new old_root new_root digest n
+    → WritesBack (scheme_of layout veiled) (state_of old old_root old_trace) (state_of new new_root new_trace) last n
+unfolding scheme_of
+writes-back_payload layout veiled old middle new old_root new_root old_trace new_trace last n payload digest held clean long back fit keeps =
+    writes-back layout veiled old middle new old_root new_root old_trace new_trace n back.block.stamp last payload back.block.payload digest
+    (fits-last last n back.block old_trace new_trace fit back.event) back.digest_is held back.payload_is clean long back.event keeps

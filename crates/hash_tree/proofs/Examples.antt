@@ -17,7 +17,7 @@ use Rattle.hash_tree.specs.Standing.{State, kept_payload, contents, IsHome, IsDe
 use Rattle.hash_tree.specs.TreeSteps.{IsRemoval, write, dropped, block_read, IsElsewhere, IsStill, uncached}
 use Rattle.hash_tree.specs.Paths.{IsAtDepth, path_in}
 
-abbrev tree : Scheme
+abbrev pub tree : Scheme
 tree = record {
   blocks = 4;
   nodes = 1;
@@ -27,14 +27,14 @@ tree = record {
   veiled = λ n stamp payload. if nat_lt n 1 then payload else reverse payload;
 }
 
-abbrev leaf : ℕ → ℕ → Block
+abbrev pub leaf : ℕ → ℕ → Block
 leaf byte stamp = record { payload = byte ∷ replicate 63 0; stamp = stamp }
 
-abbrev node : List ℕ → ℕ → Block
+abbrev pub node : List ℕ → ℕ → Block
 node digests stamp = record { payload = digests ++ replicate 58 0; stamp = stamp }
 
 -- a tree is entered: block 2 is static, and was read with a stamp of the load
-abbrev entering : List Event
+abbrev pub entering : List Event
 entering =
     BlockWrite (Tree 1) (leaf 11 1)
     ∷ BlockRead (Tree 2) (leaf 12 9)
@@ -43,19 +43,19 @@ entering =
     ∷ BlockWrite (Tree 0) (node (1 ∷ 1 ∷ 2 ∷ 2 ∷ 3 ∷ 3 ∷ []) 4)
     ∷ []
 
-abbrev entered : State
+abbrev pub entered : State
 entered = record { lines = λ n. None; root = 0 ∷ 4 ∷ []; trace = entering }
 
 -- then the node and block 1 are read, and block 1 is changed
-abbrev loading : List Event
+abbrev pub loading : List Event
 loading = entering ++ BlockRead (Tree 0) (node (1 ∷ 1 ∷ 2 ∷ 2 ∷ 3 ∷ 3 ∷ []) 4) ∷ BlockRead (Tree 1) (leaf 11 1) ∷ []
 
-abbrev lines_loaded : Held
+abbrev pub lines_loaded : Held
 lines_loaded zero = Some (record { payload = (1 ∷ 1 ∷ 2 ∷ 2 ∷ 3 ∷ 3 ∷ []) ++ replicate 58 0; dirty = false })
 lines_loaded (suc zero) = Some (record { payload = 21 ∷ replicate 63 0; dirty = true })
 lines_loaded (suc (suc n)) = None
 
-abbrev loaded : State
+abbrev pub loaded : State
 loaded = record { lines = lines_loaded; root = 0 ∷ 4 ∷ []; trace = loading }
 
 at : (k : ℕ) (xs ys : List ℕ) → xs ≡ ys → get_or xs k 0 ≡ get_or ys k 0

@@ -1,10 +1,10 @@
 -- What follows where dirty lines are written back one after another, from the greatest block number down.
 use Rattle.std.proofs.Common.{◌≡◌, ℕ, suc, ◌+◌, ◌<◌, ◌≤◌, true, false, List, [], ◌∷◌, ◌++◌, Option, Some, refl, sym, ap, ◌∙◌, subst, inl, inr, arith}
-use Rattle.std.specs.Prelude.{◌^◌, is_some, option_map}
+use Rattle.std.specs.Prelude.{◌^◌, is_some, option_map, Contains}
 use Rattle.std.specs.FinMap.{contains_key, remove, len}
 use Rattle.std.proofs.lemmas.Bool.{cases_eq, cases_Bool}
 use Rattle.std.proofs.lemmas.List.{append-nil}
-use Rattle.std.proofs.lemmas.List.Elements.{All-nil, All-push}
+use Rattle.std.proofs.lemmas.List.Elements.{All-nil, All-push, Contains-append_left, Contains-append_right}
 use Rattle.aegis_num.specs.declared.storage.Block.{Block}
 use Rattle.aegis_num.specs.declared.storage.Place.TheVariants.{Tree}
 use Rattle.regions.specs.declared.layout.Layout.{Layout}
@@ -31,6 +31,8 @@ flushed-none scheme state stands = record {
   events = [];
   appended = sym (append-nil state.trace);
   each = All-nil (WritesDue scheme state.lines);
+  written = λ n line from held is. let below = stands.inside n line held in absurd (omega (arith, below, from));
+  waiting = λ n line below held is. (line, held, is);
   held = λ n. refl;
   payloads = λ n leaf. refl;
   clean = λ n line from held. let below = stands.inside n line held in absurd (omega (arith, below, from));
@@ -51,12 +53,31 @@ flushed-written scheme lawful n old middle new line block first is fits step =
     let below = first.stands.inside n line step.held in
     let same = contents-written scheme lawful middle new n line block below step in
     let here_due : IsDue scheme old.lines n = first.due n line step.held is in
+    let event : Event = BlockWrite (Tree n) block in
     record {
       stands = (stands-written scheme lawful middle new n line block first.stands fits step).0;
       contents = record { leaf = λ m leaf inside. same.leaf m leaf inside ∙ first.contents.leaf m leaf inside };
       events = first.events ++ BlockWrite (Tree n) block ∷ [];
       appended = appended-more old.trace middle.trace new.trace first.events (BlockWrite (Tree n) block) first.appended step.event;
       each = All-push (WritesDue scheme old.lines) first.events (BlockWrite (Tree n) block) first.each (record { n = n; block = block; write = refl; due = here_due });
+      written = λ m other from held due.
+          elim (cases_eq m n) [
+            | inl here ↦
+                let last : Contains (first.events ++ event ∷ []) event = Contains-append_right first.events (event ∷ []) event (0, omega arith, refl) in
+                (block, subst (λ (k : ℕ). Contains (first.events ++ event ∷ []) (BlockWrite (Tree k) block)) (sym here) last)
+            | inr apart ↦
+                let back = first.written m other (omega (arith, from, apart)) held due in
+                (back.0, Contains-append_left first.events (event ∷ []) (BlockWrite (Tree m) back.0) back.1)
+          ];
+      waiting = λ m other under held due.
+          let now = first.waiting m other (omega (arith, under)) held due in
+          let positive : 0 < n = omega (arith, under) in
+          elim (cases_eq m (scheme.digests.parent n)) [
+            | inl here ↦
+                let parent = step.above positive in
+                (record { payload = parent.payload; dirty = true }, ap (λ (k : ℕ). new.lines k) here ∙ parent.set, refl)
+            | inr away ↦ (now.0, step.other m (λ (same : m ≡ n). omega (arith, same, under)) (λ _. away) ∙ now.1, now.2)
+          ];
       held = λ m. written-holds scheme middle new n line block step m ∙ first.held m;
       payloads = λ m leaf.
           elim (cases_eq m n) [
@@ -98,6 +119,14 @@ flushed-clean scheme n old middle first clean = record {
   events = first.events;
   appended = first.appended;
   each = first.each;
+  written = λ m other from held is.
+      elim (cases_eq m n) [
+        | inl here ↦
+            let now = first.waiting m other (omega (arith, here)) held is in
+            let e : true ≡ false = sym now.2 ∙ clean now.0 (ap (λ (k : ℕ). middle.lines k) (sym here) ∙ now.1) in cc
+        | inr apart ↦ first.written m other (omega (arith, from, apart)) held is
+      ];
+  waiting = λ m other below held is. first.waiting m other (omega (arith, below)) held is;
   held = first.held;
   payloads = first.payloads;
   clean = λ m line from held.

@@ -19,5 +19,8 @@ pub mod PathLemmas
 pub mod PathLoads
 pub mod KeptLemmas
 mod Examples
+mod EntryExamples
+mod FlushExamples
+mod StandingExamples
 pub mod LoadLemmas
 pub mod LawProofs

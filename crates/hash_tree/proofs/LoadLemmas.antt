@@ -1,18 +1,23 @@
 -- What follows where one block of a path is loaded.
-use Rattle.std.proofs.Common.{◌≡◌, ℕ, ◌<◌, Bool, true, false, List, [], ◌∷◌, length, Option, Some, None, refl, sym, subst}
-use Rattle.std.specs.Prelude.{is_some, Contains, if◌then◌else◌}
+use Rattle.std.proofs.Common.{◌≡◌, ℕ, ◌<◌, Bool, true, false, List, [], ◌∷◌, ◌++◌, length, Option, Some, None, refl, sym, ap, ◌∙◌, subst}
+use Rattle.std.specs.Prelude.{is_some, filter_map, Contains, if◌then◌else◌}
 use Rattle.std.specs.FinMap.{contains_key}
 use Rattle.regions.specs.declared.layout.Layout.{Layout}
 use Rattle.regions.specs.Tree.{tree_blocks}
+use Rattle.aegis_num.specs.declared.storage.Block.{Block}
+use Rattle.aegis_num.specs.declared.storage.Place.TheVariants.{Tree}
 use Rattle.off_chip.specs.declared.event.Event.{Event}
+use Rattle.off_chip.specs.declared.event.Event.TheVariants.{BlockRead}
+use Rattle.off_chip.proofs.HistoryLemmas.{filter_map-push}
+use Rattle.std.proofs.lemmas.List.{append-nil}
 use Rattle.line_cache.specs.declared.lines.Line.{Line}
 use Rattle.line_cache.specs.LineMaps.{LineMap}
 use Rattle.hash_tree.specs.CachedLines.{held_in}
 use Rattle.hash_tree.specs.HashTrees.{scheme_of, state_of}
 use Rattle.hash_tree.specs.Schemes.{Scheme, IsLawful}
 use Rattle.hash_tree.specs.Standing.{State, Stands, IsKeptDigest}
-use Rattle.hash_tree.specs.TreeSteps.{Moved, Reads, Stops, uncached}
-use Rattle.hash_tree.proofs.MoveLemmas.{moved-none, moved-inserted, still-absent}
+use Rattle.hash_tree.specs.TreeSteps.{Appends, Moved, Reads, ReadsFirst, Stops, block_read, uncached}
+use Rattle.hash_tree.proofs.MoveLemmas.{appended-more, moved-none, moved-inserted, still-absent}
 
 no-line : (o : Option Line) → is_some o ≡ false → o ≡ None
 no-line None none = refl
@@ -58,3 +63,23 @@ stops-read layout veiled pinned old middle new middle_root new_root middle_trace
   differs = (reads.differs refl).0;
   inside = below;
 }
+
+-- ---- which blocks are read
+
+-- none
+pub reads-none : (blocks : List ℕ) (trace : List Event) → ReadsFirst blocks trace trace
+reads-none blocks trace = record { events = []; appended = sym (append-nil trace); unread = blocks; reads = refl }
+
+-- one, after lines left
+pub reads-one : (scheme : Scheme) (pinned : List ℕ) (old middle : LineMap) (old_root middle_root : List ℕ) (old_trace middle_trace new_trace : List Event) (n : ℕ) (block : Block)
+    → Moved scheme pinned (state_of old old_root old_trace) (state_of middle middle_root middle_trace) [] → Appends (BlockRead (Tree n) block) middle_trace new_trace
+    → false ≡ contains_key old n → ReadsFirst (uncached (held_in old) (n ∷ [])) old_trace new_trace
+reads-one scheme pinned old middle old_root middle_root old_trace middle_trace new_trace n block moved event absent =
+    let moves = moved.moves in
+    subst (λ (b : Bool). ReadsFirst (if b then [] else n ∷ []) old_trace new_trace) absent (record {
+      events = moves.events ++ BlockRead (Tree n) block ∷ [];
+      appended = appended-more old_trace middle_trace new_trace moves.events (BlockRead (Tree n) block) moves.appended event;
+      unread = [];
+      reads = append-nil (filter_map block_read (moves.events ++ BlockRead (Tree n) block ∷ [])) ∙ filter_map-push block_read moves.events (BlockRead (Tree n) block)
+          ∙ ap (λ (xs : List ℕ). xs ++ n ∷ []) moves.reads_are;
+    })

@@ -15,7 +15,7 @@ use Rattle.block_hash.specs.BlockStrings.{block_digest, block_string}
 use Rattle.block_hash.specs.declared.strings.TheConstants.{TREE_TAG}
 use Rattle.block_hash.specs.ProgramParts.{ProgramParts}
 use Rattle.block_hash.proofs.StringLemmas.{length-sha1}
-use Rattle.hash_tree.specs.Entering.{writes_block, moves_below, IsUnder, WritesFirst, BlocksEntered, SubtreeEntered}
+use Rattle.hash_tree.specs.Entering.{writes_block, moves_below, IsUnder, WritesPayload, BlocksEntered, SubtreeEntered}
 use Rattle.hash_tree.specs.HashTrees.{nodes_of, scheme_of, slot_in_payload}
 use Rattle.hash_tree.specs.Schemes.{IsLawful}
 use Rattle.hash_tree.specs.Standing.{IsPadded, NodeLaidOut}
@@ -72,7 +72,7 @@ module _ (layout : Layout) (veiled : ℕ → ℕ → List ℕ → List ℕ) (law
     (one : SubtreeEntered layout (scheme_of layout veiled) levels (3 * n + 1) p0 p1 t0 t1 d1)
     (two : SubtreeEntered layout (scheme_of layout veiled) levels (3 * n + 2) p1 p2 t1 t2 d2)
     (three : SubtreeEntered layout (scheme_of layout veiled) levels (3 * n + 3) p2 p3 t2 t3 d3)
-    (back : WritesFirst (scheme_of layout veiled) n (digests-put d1 d2 d3) digest t3 t4) where
+    (back : WritesPayload (scheme_of layout veiled) n (digests-put d1 d2 d3) digest t3 t4) where
   abbrev First : ℕ → Type 0
   First m = IsUnder levels (3 * n + 1) m
 

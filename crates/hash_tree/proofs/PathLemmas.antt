@@ -1,12 +1,12 @@
 -- Paths from the root down to a block, in a tree of which each node has three children.
-use Rattle.std.proofs.Common.{◌≡◌, ℕ, zero, suc, ◌+◌, ◌-◌, ◌*◌, ◌/◌, ◌<◌, ◌≤◌, Bool, true, false, List, [], ◌∷◌, ◌++◌, length, eqb, ◌||◌, refl, sym, ap, ◌∙◌, subst, inl, inr, ◌⊎◌, arith, length-append}
+use Rattle.std.proofs.Common.{◌≡◌, ℕ, zero, suc, ◌+◌, ◌-◌, ◌<◌, Bool, true, false, List, [], ◌∷◌, ◌++◌, length, eqb, ◌||◌, refl, sym, ap, ◌∙◌, subst, inl, inr, arith, length-append}
 use Rattle.std.specs.Prelude.{is_some, Contains, slice_index_or, if◌then◌else◌}
 use Rattle.std.specs.List.{list_any}
 use Rattle.std.proofs.lemmas.List.Folds.{list_any-append}
 use Rattle.std.proofs.lemmas.List.Elements.{Contains-append_cases, Contains-append_left, Contains-append_right}
 use Rattle.std.proofs.lemmas.Bool.{ne_eqb}
 use Rattle.regions.specs.declared.layout.Layout.{Layout}
-use Rattle.regions.specs.Tree.{height_of, leaf_of, level_start, parent_in, positions_of}
+use Rattle.regions.specs.Tree.{height_of, leaf_of, parent_in, positions_of}
 use Rattle.regions.proofs.TreeLaws.{level_start-suc, levels-apart}
 use Rattle.line_cache.specs.LineMaps.{HoldParents, parent_block}
 use Rattle.hash_tree.specs.CachedLines.{Held}

@@ -82,8 +82,8 @@ abbrev pub first_leaf : ℕ → ℕ → ℕ
 first_leaf zero n = n
 first_leaf (suc levels) n = first_leaf levels (3 * n + 1)
 
--- a payload was written that has no line, with the veil of its block and its stamp
-pub record WritesFirst (scheme : Scheme) (n : ℕ) (payload digest : List ℕ) (old new : List Event) : Type 0 where
+-- a payload was written, with the veil of its block and its stamp, and this is the digest of what was written
+pub record WritesPayload (scheme : Scheme) (n : ℕ) (payload digest : List ℕ) (old new : List Event) : Type 0 where
   pub block : Block
   pub event : Appends (BlockWrite (Tree n) block) old new
   pub payload_is : block.payload ≡ scheme.veiled n block.stamp payload

@@ -1,5 +1,5 @@
 -- Promise: what a tree does where it writes all its dirty lines back.
-use Rattle.std.specs.Prelude.{◌≡◌, ℕ, ◌<◌, ◌≤◌, ◌^◌, true, false, List, ◌++◌, Some, is_some, option_map}
+use Rattle.std.specs.Prelude.{◌≡◌, ℕ, ◌<◌, ◌≤◌, ◌^◌, true, false, List, ◌++◌, Some, is_some, option_map, Contains}
 use Rattle.std.specs.List.{All}
 use Rattle.aegis_num.specs.declared.storage.Block.{Block}
 use Rattle.aegis_num.specs.declared.storage.Place.TheVariants.{Tree}
@@ -32,6 +32,9 @@ pub record Flushed (scheme : Scheme) (from : ℕ) (old new : State) : Type 0 whe
   pub events : List Event
   pub appended : new.trace ≡ old.trace ++ events
   pub each : All (WritesDue scheme old.lines) events
+  -- each line from that number on that was dirty was written, and the others that were dirty still are
+  pub written : (n : ℕ) (line : Line) → from ≤ n → old.lines n ≡ Some line → line.dirty ≡ true → (block : Block) × Contains events (BlockWrite (Tree n) block)
+  pub waiting : (n : ℕ) (line : Line) → n < from → old.lines n ≡ Some line → line.dirty ≡ true → (now : Line) × (new.lines n ≡ Some now) × (now.dirty ≡ true)
   -- no line comes or leaves, and those of no nodes have the payloads that they had
   pub held : (n : ℕ) → is_some (new.lines n) ≡ is_some (old.lines n)
   pub payloads : (n : ℕ) → scheme.nodes ≤ n → option_map (λ (line : Line). line.payload) (new.lines n) ≡ option_map (λ (line : Line). line.payload) (old.lines n)

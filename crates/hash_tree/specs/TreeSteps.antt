@@ -162,6 +162,13 @@ abbrev pub uncached : Held → List ℕ → List ℕ
 uncached lines [] = []
 uncached lines (n ∷ blocks) = if is_some (lines n) then uncached lines blocks else n ∷ uncached lines blocks
 
+-- of these blocks the first ones were read, in their order, each once, and no other block of the tree was
+pub record ReadsFirst (blocks : List ℕ) (old new : List Event) : Type 0 where
+  pub events : List Event
+  pub appended : new ≡ old ++ events
+  pub unread : List ℕ
+  pub reads : filter_map block_read events ++ unread ≡ blocks
+
 -- a load stopped at an event: after a part of it a block was read whose digest is not the one that is kept of it
 pub record Stops (scheme : Scheme) (pinned : List ℕ) (old new : State) (event : ℕ) : Type 0 where
   pub middle : State

@@ -17,9 +17,9 @@ ghost use Rattle.hash_tree.specs.HashTrees.{nodes_of, scheme_of, state_of};
 ghost use Rattle.hash_tree.specs.contracts.tree.Tree.{the_row};
 ghost use Rattle.hash_tree.specs.TreeParts.{SameTree, StandsOn, with_lines};
 ghost use Rattle.hash_tree.specs.Paths.{IsAtDepth, path_in, path_of};
-ghost use Rattle.hash_tree.specs.Entering.{Entered, SubtreeEntered, WritesFirst, first_leaf, is_static, leaf_moves, moves_below, statics_before};
+ghost use Rattle.hash_tree.specs.Entering.{Entered, SubtreeEntered, WritesPayload, first_leaf, is_static, leaf_moves, moves_below, statics_before};
 ghost use Rattle.hash_tree.specs.Flushes.{Flushed, LineFlushed};
-ghost use Rattle.hash_tree.specs.TreeSteps.{Evicted, IsElsewhere, IsStill, KeepsDigest, Moved, Reads, Stops, TellsKept, WritesBack, uncached};
+ghost use Rattle.hash_tree.specs.TreeSteps.{Evicted, IsElsewhere, IsStill, KeepsDigest, Moved, Reads, ReadsFirst, Stops, TellsKept, WritesBack, uncached};
 ghost use Rattle.hash_tree.specs.CachedLines.{held_in};
 
 use crate::veil::Veil;
@@ -60,7 +60,12 @@ impl<L: Lines, V: Veil> Model for Tree<L, V> {
 
     ghost Value = { TreeParts L V };
 
-    ghost view = { λ t. record { lines = t.lines; veil = t.veil; layout = t.layout; root = t.root } };
+    ghost view = { λ t. record {
+      lines = t.lines;
+      veil = t.veil;
+      layout = t.layout;
+      root = t.root;
+    } };
 
     ghost invariant = { λ t. V.nodes t.veil ≡ nodes_of t.layout };
 }
@@ -89,17 +94,21 @@ impl<L: Lines, V: Veil> Tree<L, V> {
         requires fresh { L.lines self.old.lines ≡ empty }
         requires untouched { All IsElsewhere (O.trace bus.old) }
         requires fit { StampsFit stamps.old (history (O.trace bus.old)) }
-        requires has_room { static_blocks self.old.layout + tree_blocks self.old.layout ≤ O.room bus.old }
+        requires has_room { static_blocks self.old.layout + tree_blocks self.old.layout
+            ≤ O.room bus.old }
         requires told { TellsOnly self.old.layout (O.layout bus.old) }
         ensures tree { SameTree self.old self.new }
-        ensures stands { StandsOn self.new (L.lines self.new.lines) (V.veiled self.new.veil) (O.trace bus.new) }
+        ensures stands { StandsOn self.new (L.lines self.new.lines) (V.veiled self.new.veil)
+            (O.trace bus.new) }
         ensures lines { L.lines self.new.lines ≡ empty }
         ensures does { Entered self.old.layout (scheme_of self.old.layout (V.veiled self.old.veil))
             (state_of (L.lines self.old.lines) self.old.root (O.trace bus.old))
             (state_of (L.lines self.new.lines) self.new.root (O.trace bus.new)) result }
         ensures count { length (O.trace bus.new)
-            ≡ length (O.trace bus.old) + (static_blocks self.old.layout + tree_blocks self.old.layout) }
-        ensures total { length (O.trace bus.new) + O.room bus.new ≡ length (O.trace bus.old) + O.room bus.old }
+            ≡ length (O.trace bus.old)
+            + (static_blocks self.old.layout + tree_blocks self.old.layout) }
+        ensures total { length (O.trace bus.new) + O.room bus.new
+            ≡ length (O.trace bus.old) + O.room bus.old }
         ensures fit { StampsFit stamps.new (history (O.trace bus.new)) }
         ensures same { O.same_memory bus.old bus.new }
     {
@@ -122,18 +131,23 @@ impl<L: Lines, V: Veil> Tree<L, V> {
         requires nodes { V.nodes self.now.veil ≡ nodes_of self.now.layout }
         requires leaves { nodes_of self.now.layout ≤ first_leaf levels block }
         requires inside { first_leaf levels (block + 1) ≤ tree_blocks self.now.layout }
-        requires added { program.old.added ≡ statics_before self.now.layout (first_leaf levels block) }
+        requires added { program.old.added
+            ≡ statics_before self.now.layout (first_leaf levels block) }
         requires blocks { program.old.blocks ≡ static_blocks self.now.layout }
         requires fit { StampsFit stamps.old (history (O.trace bus.old)) }
         requires has_room { length (moves_below self.now.layout levels block) ≤ O.room bus.old }
         requires limit { length (O.trace bus.old) + O.room bus.old < 2 ^ 64 }
         requires told { TellsOnly self.now.layout (O.layout bus.old) }
-        ensures does { SubtreeEntered self.now.layout (scheme_of self.now.layout (V.veiled self.now.veil))
+        ensures does { SubtreeEntered self.now.layout
+            (scheme_of self.now.layout (V.veiled self.now.veil))
             levels block program.old program.new (O.trace bus.old) (O.trace bus.new) result }
-        ensures added { program.new.added ≡ statics_before self.now.layout (first_leaf levels (block + 1)) }
+        ensures added { program.new.added
+            ≡ statics_before self.now.layout (first_leaf levels (block + 1)) }
         ensures blocks { program.new.blocks ≡ static_blocks self.now.layout }
-        ensures room { O.room bus.new + length (moves_below self.now.layout levels block) ≡ O.room bus.old }
-        ensures total { length (O.trace bus.new) + O.room bus.new ≡ length (O.trace bus.old) + O.room bus.old }
+        ensures room { O.room bus.new + length (moves_below self.now.layout levels block)
+            ≡ O.room bus.old }
+        ensures total { length (O.trace bus.new) + O.room bus.new
+            ≡ length (O.trace bus.old) + O.room bus.old }
         ensures fit { StampsFit stamps.new (history (O.trace bus.new)) }
         ensures same { O.same_memory bus.old bus.new }
     {
@@ -144,7 +158,7 @@ impl<L: Lines, V: Veil> Tree<L, V> {
         let second = self.enter_below(bus, stamps, program, FAN * block + 2, levels - 1);
         let third = self.enter_below(bus, stamps, program, FAN * block + 3, levels - 1);
         let payload = node_payload(&first, &second, &third);
-        self.write_first(bus, stamps, block, &payload)
+        self.write(bus, stamps, block, &payload)
     }
 
     // Enters a block of the lowest level, and gives its digest. A static block is read, and each other one holds zeros.
@@ -163,17 +177,19 @@ impl<L: Lines, V: Veil> Tree<L, V> {
         requires has_room { length (leaf_moves self.now.layout block) ≤ O.room bus.old }
         requires limit { length (O.trace bus.old) + O.room bus.old < 2 ^ 64 }
         requires told { TellsOnly self.now.layout (O.layout bus.old) }
-        ensures does { SubtreeEntered self.now.layout (scheme_of self.now.layout (V.veiled self.now.veil))
+        ensures does { SubtreeEntered self.now.layout
+            (scheme_of self.now.layout (V.veiled self.now.veil))
             0 block program.old program.new (O.trace bus.old) (O.trace bus.new) result }
         ensures added { program.new.added ≡ statics_before self.now.layout (block + 1) }
         ensures blocks { program.new.blocks ≡ static_blocks self.now.layout }
         ensures room { O.room bus.new + length (leaf_moves self.now.layout block) ≡ O.room bus.old }
-        ensures total { length (O.trace bus.new) + O.room bus.new ≡ length (O.trace bus.old) + O.room bus.old }
+        ensures total { length (O.trace bus.new) + O.room bus.new
+            ≡ length (O.trace bus.old) + O.room bus.old }
         ensures fit { StampsFit stamps.new (history (O.trace bus.new)) }
         ensures same { O.same_memory bus.old bus.new }
     {
         if !is_static(&self.layout, block) {
-            return self.write_first(bus, stamps, block, &[0; 64]);
+            return self.write(bus, stamps, block, &[0; 64]);
         }
         let mut found = Block {
             payload: [0; 64],
@@ -181,11 +197,11 @@ impl<L: Lines, V: Veil> Tree<L, V> {
         };
         bus.read_block(Place::Tree(block), &mut found);
         program.add(&found.payload);
-        self.write_first(bus, stamps, block, &found.payload)
+        self.write(bus, stamps, block, &found.payload)
     }
 
-    // Writes a payload that has no line, and gives the digest of what was written.
-    fn write_first<O: OffChip>(
+    // Writes a payload with a fresh stamp, and gives the digest of what was written.
+    fn write<O: OffChip>(
         &self,
         bus: &mut O,
         stamps: &mut Stamps,
@@ -197,8 +213,10 @@ impl<L: Lines, V: Veil> Tree<L, V> {
         requires has_room { 0 < O.room bus.old }
         requires limit { length (O.trace bus.old) + O.room bus.old < 2 ^ 64 }
         requires told { TellsOnly self.now.layout (O.layout bus.old) }
-        ensures does { WritesFirst (scheme_of self.now.layout (V.veiled self.now.veil)) block payload.now result
+        ensures does { WritesPayload
+            (scheme_of self.now.layout (V.veiled self.now.veil)) block payload.now result
             (O.trace bus.old) (O.trace bus.new) }
+        ensures stamp { stamps.new ≡ stamps.old + 1 }
         ensures room { O.room bus.new + 1 ≡ O.room bus.old }
         ensures fit { StampsFit stamps.new (history (O.trace bus.new)) }
         ensures same { O.same_memory bus.old bus.new }
@@ -225,13 +243,16 @@ impl<L: Lines, V: Veil> Tree<L, V> {
         requires position { position < positions_of self.old.layout }
         requires parents { HoldParents pins.now.blocks.items }
         requires few_pins { length pins.now.blocks.items ≤ 9 }
-        requires stands { StandsOn self.old (L.lines self.old.lines) (V.veiled self.old.veil) (O.trace bus.old) }
+        requires stands { StandsOn self.old (L.lines self.old.lines) (V.veiled self.old.veil)
+            (O.trace bus.old) }
         requires fit { StampsFit stamps.old (history (O.trace bus.old)) }
         requires has_room { 160 ≤ O.room bus.old }
         requires told { TellsOnly self.old.layout (O.layout bus.old) }
         ensures tree { SameTree self.old self.new }
-        ensures stands { IfOk result (λ _. StandsOn self.new (L.lines self.new.lines) (V.veiled self.new.veil) (O.trace bus.new)) }
-        ensures held { IfOk result (λ _. Holds (L.lines self.new.lines) (leaf_of self.old.layout position)) }
+        ensures stands { IfOk result (λ _. StandsOn self.new (L.lines self.new.lines)
+            (V.veiled self.new.veil) (O.trace bus.new)) }
+        ensures held { IfOk result
+            (λ _. Holds (L.lines self.new.lines) (leaf_of self.old.layout position)) }
 
         // Its events, what they leave of the lines, and that contents are kept.
         ensures ok { IfOk result (λ _. Moved (scheme_of self.old.layout (V.veiled self.old.veil))
@@ -240,12 +261,20 @@ impl<L: Lines, V: Veil> Tree<L, V> {
             (state_of (L.lines self.new.lines) self.new.root (O.trace bus.new))
             (uncached (held_in (L.lines self.old.lines)) (path_of self.old.layout position))) }
 
+        // Also where it stops, it reads blocks of the path that had no line, from the root down,
+        // each once.
+        ensures reads { ReadsFirst
+            (uncached (held_in (L.lines self.old.lines)) (path_of self.old.layout position))
+            (O.trace bus.old) (O.trace bus.new) }
+
         // Nothing is done where the block has a line.
-        ensures still { Holds (L.lines self.old.lines) (leaf_of self.old.layout position) → IsOk result
-            × IsStill (L.lines self.old.lines) (L.lines self.new.lines) (O.trace bus.old) (O.trace bus.new) }
+        ensures still { Holds (L.lines self.old.lines) (leaf_of self.old.layout position)
+            → IsOk result × IsStill (L.lines self.old.lines) (L.lines self.new.lines)
+            (O.trace bus.old) (O.trace bus.new) }
 
         // It stops at the last event, a read of a block with another digest than the one that is kept.
-        ensures changed { IfErr result (λ changed. Stops (scheme_of self.old.layout (V.veiled self.old.veil))
+        ensures changed { IfErr result
+            (λ changed. Stops (scheme_of self.old.layout (V.veiled self.old.veil))
             (pins.now.blocks.items ++ path_of self.old.layout position)
             (state_of (L.lines self.old.lines) self.old.root (O.trace bus.old))
             (state_of (L.lines self.new.lines) self.new.root (O.trace bus.new)) changed.event) }
@@ -253,7 +282,8 @@ impl<L: Lines, V: Veil> Tree<L, V> {
         // It does not where each read was faithful.
         ensures honest { AllAsWritten (history (O.trace bus.new)) → IsOk result }
         ensures few { length (O.trace bus.new) ≤ length (O.trace bus.old) + 160 }
-        ensures total { length (O.trace bus.new) + O.room bus.new ≡ length (O.trace bus.old) + O.room bus.old }
+        ensures total { length (O.trace bus.new) + O.room bus.new
+            ≡ length (O.trace bus.old) + O.room bus.old }
         ensures fit { StampsFit stamps.new (history (O.trace bus.new)) }
         ensures same { O.same_memory bus.old bus.new }
     {
@@ -268,7 +298,8 @@ impl<L: Lines, V: Veil> Tree<L, V> {
     pub fn payload(&self, position: u32) -> &[u8; 64]
         requires position { position < positions_of self.now.layout }
         requires held { Holds (L.lines self.now.lines) (leaf_of self.now.layout position) }
-        ensures value { payload_at (L.lines self.now.lines) (leaf_of self.now.layout position) ≡ Some result.now }
+        ensures value { payload_at (L.lines self.now.lines) (leaf_of self.now.layout position)
+            ≡ Some result.now }
     {
         self.lines.payload(leaf(&self.layout, position))
     }
@@ -278,9 +309,11 @@ impl<L: Lines, V: Veil> Tree<L, V> {
     pub fn payload_mut(&mut self, position: u32) -> &mut [u8; 64]
         requires position { position < positions_of self.old.layout }
         requires held { Holds (L.lines self.old.lines) (leaf_of self.old.layout position) }
-        ensures* writes_back { sem 𝓛 (Lends (the_row L.row V.row L.Lines V.Veil) (Array byte 64) self.entry result
+        ensures* writes_back { sem 𝓛
+            (Lends (the_row L.row V.row L.Lines V.Veil) (Array byte 64) self.entry result
             (with_lines self.old (L.lent self.old.lines (leaf_of self.old.layout position)))) }
-        ensures value { payload_at (L.lines self.old.lines) (leaf_of self.old.layout position) ≡ Some result.now }
+        ensures value { payload_at (L.lines self.old.lines) (leaf_of self.old.layout position)
+            ≡ Some result.now }
     {
         let block = leaf(&self.layout, position);
         self.lines.line_mut(block)
@@ -289,7 +322,8 @@ impl<L: Lines, V: Veil> Tree<L, V> {
     /// Writes all dirty lines back, from the greatest block number down, so that each node is written after its children.
     /// All lines stay, and are clean then.
     pub fn flush<O: OffChip>(&mut self, bus: &mut O, stamps: &mut Stamps)
-        requires stands { StandsOn self.old (L.lines self.old.lines) (V.veiled self.old.veil) (O.trace bus.old) }
+        requires stands { StandsOn self.old (L.lines self.old.lines) (V.veiled self.old.veil)
+            (O.trace bus.old) }
         requires fit { StampsFit stamps.old (history (O.trace bus.old)) }
         requires has_room { 128 ≤ O.room bus.old }
         requires told { TellsOnly self.old.layout (O.layout bus.old) }
@@ -300,7 +334,8 @@ impl<L: Lines, V: Veil> Tree<L, V> {
             (state_of (L.lines self.old.lines) self.old.root (O.trace bus.old))
             (state_of (L.lines self.new.lines) self.new.root (O.trace bus.new)) }
         ensures few { length (O.trace bus.new) ≤ length (O.trace bus.old) + 128 }
-        ensures total { length (O.trace bus.new) + O.room bus.new ≡ length (O.trace bus.old) + O.room bus.old }
+        ensures total { length (O.trace bus.new) + O.room bus.new
+            ≡ length (O.trace bus.old) + O.room bus.old }
         ensures fit { StampsFit stamps.new (history (O.trace bus.new)) }
         ensures same { O.same_memory bus.old bus.new }
     {
@@ -314,7 +349,8 @@ impl<L: Lines, V: Veil> Tree<L, V> {
 
     // Writes the line of a block back, where it has one that is dirty.
     fn flush_line<O: OffChip>(&mut self, bus: &mut O, stamps: &mut Stamps, block: u32)
-        requires stands { StandsOn self.old (L.lines self.old.lines) (V.veiled self.old.veil) (O.trace bus.old) }
+        requires stands { StandsOn self.old (L.lines self.old.lines) (V.veiled self.old.veil)
+            (O.trace bus.old) }
         requires fit { StampsFit stamps.old (history (O.trace bus.old)) }
         requires has_room { Holds (L.lines self.old.lines) block → 0 < O.room bus.old }
         requires limit { length (O.trace bus.old) + O.room bus.old < 2 ^ 64 }
@@ -324,8 +360,10 @@ impl<L: Lines, V: Veil> Tree<L, V> {
             (state_of (L.lines self.old.lines) self.old.root (O.trace bus.old))
             (state_of (L.lines self.new.lines) self.new.root (O.trace bus.new)) block }
         ensures room { O.room bus.old ≤ O.room bus.new + 1 }
-        ensures absent { contains_key (L.lines self.old.lines) block ≡ false → O.room bus.new ≡ O.room bus.old }
-        ensures total { length (O.trace bus.new) + O.room bus.new ≡ length (O.trace bus.old) + O.room bus.old }
+        ensures absent { contains_key (L.lines self.old.lines) block ≡ false
+            → O.room bus.new ≡ O.room bus.old }
+        ensures total { length (O.trace bus.new) + O.room bus.new
+            ≡ length (O.trace bus.old) + O.room bus.old }
         ensures fit { StampsFit stamps.new (history (O.trace bus.new)) }
         ensures same { O.same_memory bus.old bus.new }
     {
@@ -337,7 +375,8 @@ impl<L: Lines, V: Veil> Tree<L, V> {
     // Writes the line of a block back, which is clean then, and keeps the digest of what was written.
     fn write_back<O: OffChip>(&mut self, bus: &mut O, stamps: &mut Stamps, block: u32)
         requires held { Holds (L.lines self.old.lines) block }
-        requires stands { StandsOn self.old (L.lines self.old.lines) (V.veiled self.old.veil) (O.trace bus.old) }
+        requires stands { StandsOn self.old (L.lines self.old.lines) (V.veiled self.old.veil)
+            (O.trace bus.old) }
         requires fit { StampsFit stamps.old (history (O.trace bus.old)) }
         requires has_room { 0 < O.room bus.old }
         requires limit { length (O.trace bus.old) + O.room bus.old < 2 ^ 64 }
@@ -350,23 +389,21 @@ impl<L: Lines, V: Veil> Tree<L, V> {
         ensures room { O.room bus.new + 1 ≡ O.room bus.old }
         ensures same { O.same_memory bus.old bus.new }
         ensures count { len (L.lines self.new.lines) ≡ len (L.lines self.old.lines) }
-        ensures childless { IsChildless (L.lines self.old.lines) block → IsChildless (L.lines self.new.lines) block }
+        ensures childless { IsChildless (L.lines self.old.lines) block
+            → IsChildless (L.lines self.new.lines) block }
         ensures held { Holds (L.lines self.new.lines) block }
     {
-        let mut payload = *self.lines.payload(block);
-        let stamp = stamps.fresh();
-        self.veil.veil(block, stamp, &mut payload);
-        let written = Block { payload, stamp };
-        bus.write_block(Place::Tree(block), &written);
+        let digest = self.write(bus, stamps, block, self.lines.payload(block));
         self.lines.clean(block);
-        self.keep_digest(block, block_digest(block, &written));
+        self.keep_digest(block, digest);
     }
 
     // Takes out the line of a block, after a write where it is dirty, and else with a mark.
     fn evict<O: OffChip>(&mut self, bus: &mut O, stamps: &mut Stamps, block: u32)
         requires held { Holds (L.lines self.old.lines) block }
         requires childless { IsChildless (L.lines self.old.lines) block }
-        requires stands { StandsOn self.old (L.lines self.old.lines) (V.veiled self.old.veil) (O.trace bus.old) }
+        requires stands { StandsOn self.old (L.lines self.old.lines) (V.veiled self.old.veil)
+            (O.trace bus.old) }
         requires fit { StampsFit stamps.old (history (O.trace bus.old)) }
         requires has_room { 0 < O.room bus.old }
         requires limit { length (O.trace bus.old) + O.room bus.old < 2 ^ 64 }
@@ -378,7 +415,8 @@ impl<L: Lines, V: Veil> Tree<L, V> {
         ensures fit { StampsFit stamps.new (history (O.trace bus.new)) }
         ensures count { len (L.lines self.new.lines) + 1 ≡ len (L.lines self.old.lines) }
         ensures room { O.room bus.new + 1 ≡ O.room bus.old }
-        ensures total { length (O.trace bus.new) + O.room bus.new ≡ length (O.trace bus.old) + O.room bus.old }
+        ensures total { length (O.trace bus.new) + O.room bus.new
+            ≡ length (O.trace bus.old) + O.room bus.old }
         ensures same { O.same_memory bus.old bus.new }
     {
         if self.lines.dirty(block) {
@@ -393,20 +431,23 @@ impl<L: Lines, V: Veil> Tree<L, V> {
     // Takes lines out until there is room for one of this block. Pinned blocks keep theirs.
     fn make_room<O: OffChip>(&mut self, bus: &mut O, stamps: &mut Stamps, block: u32, pins: &Pins)
         requires parents { HoldParents pins.now.blocks.items }
-        requires stands { StandsOn self.old (L.lines self.old.lines) (V.veiled self.old.veil) (O.trace bus.old) }
+        requires stands { StandsOn self.old (L.lines self.old.lines) (V.veiled self.old.veil)
+            (O.trace bus.old) }
         requires fit { StampsFit stamps.old (history (O.trace bus.old)) }
         requires has_room { len (L.lines self.old.lines) ≤ O.room bus.old }
         requires limit { length (O.trace bus.old) + O.room bus.old < 2 ^ 64 }
         requires told { TellsOnly self.old.layout (O.layout bus.old) }
         ensures tree { SameTree self.old self.new }
-        ensures does { Moved (scheme_of self.old.layout (V.veiled self.old.veil)) pins.now.blocks.items
+        ensures does { Moved
+            (scheme_of self.old.layout (V.veiled self.old.veil)) pins.now.blocks.items
             (state_of (L.lines self.old.lines) self.old.root (O.trace bus.old))
             (state_of (L.lines self.new.lines) self.new.root (O.trace bus.new)) [] }
         ensures fit { StampsFit stamps.new (history (O.trace bus.new)) }
         ensures ready { IsTrue (L.has_room self.new.lines block) }
         ensures room { O.room bus.new + len (L.lines self.old.lines)
             ≡ O.room bus.old + len (L.lines self.new.lines) }
-        ensures total { length (O.trace bus.new) + O.room bus.new ≡ length (O.trace bus.old) + O.room bus.old }
+        ensures total { length (O.trace bus.new) + O.room bus.new
+            ≡ length (O.trace bus.old) + O.room bus.old }
         ensures same { O.same_memory bus.old bus.new }
     {
         while let Some(victim) = self.lines.victim(block, pins) {
@@ -427,26 +468,35 @@ impl<L: Lines, V: Veil> Tree<L, V> {
         requires inside { block < tree_blocks self.old.layout }
         requires pinned { Contains pins.now.blocks.items block }
         requires parents { HoldParents pins.now.blocks.items }
-        requires stands { StandsOn self.old (L.lines self.old.lines) (V.veiled self.old.veil) (O.trace bus.old) }
+        requires stands { StandsOn self.old (L.lines self.old.lines) (V.veiled self.old.veil)
+            (O.trace bus.old) }
         requires fit { StampsFit stamps.old (history (O.trace bus.old)) }
         requires has_room { len (L.lines self.old.lines) + 2 * (depth + 1) ≤ O.room bus.old }
         requires limit { length (O.trace bus.old) + O.room bus.old < 2 ^ 64 }
         requires told { TellsOnly self.old.layout (O.layout bus.old) }
         ensures tree { SameTree self.old self.new }
-        ensures ok { IfOk result (λ _. Moved (scheme_of self.old.layout (V.veiled self.old.veil)) pins.now.blocks.items
+        ensures ok { IfOk result
+            (λ _. Moved (scheme_of self.old.layout (V.veiled self.old.veil)) pins.now.blocks.items
             (state_of (L.lines self.old.lines) self.old.root (O.trace bus.old))
             (state_of (L.lines self.new.lines) self.new.root (O.trace bus.new))
             (uncached (held_in (L.lines self.old.lines)) (path_in 3 depth block))) }
+        ensures reads { ReadsFirst
+            (uncached (held_in (L.lines self.old.lines)) (path_in 3 depth block))
+            (O.trace bus.old) (O.trace bus.new) }
         ensures held { IfOk result (λ _. Holds (L.lines self.new.lines) block) }
-        ensures changed { IfErr result (λ changed. Stops (scheme_of self.old.layout (V.veiled self.old.veil)) pins.now.blocks.items
+        ensures changed { IfErr result (λ changed. Stops
+            (scheme_of self.old.layout (V.veiled self.old.veil)) pins.now.blocks.items
             (state_of (L.lines self.old.lines) self.old.root (O.trace bus.old))
             (state_of (L.lines self.new.lines) self.new.root (O.trace bus.new)) changed.event) }
         ensures still { Holds (L.lines self.old.lines) block → IsOk result
-            × IsStill (L.lines self.old.lines) (L.lines self.new.lines) (O.trace bus.old) (O.trace bus.new) }
+            × IsStill (L.lines self.old.lines) (L.lines self.new.lines)
+            (O.trace bus.old) (O.trace bus.new) }
         ensures room { IfOk result (λ _. O.room bus.old + len (L.lines self.new.lines)
             ≤ O.room bus.new + len (L.lines self.old.lines) + 2 * (depth + 1)) }
-        ensures few { O.room bus.old ≤ O.room bus.new + len (L.lines self.old.lines) + 2 * (depth + 1) }
-        ensures total { length (O.trace bus.new) + O.room bus.new ≡ length (O.trace bus.old) + O.room bus.old }
+        ensures few { O.room bus.old
+            ≤ O.room bus.new + len (L.lines self.old.lines) + 2 * (depth + 1) }
+        ensures total { length (O.trace bus.new) + O.room bus.new
+            ≡ length (O.trace bus.old) + O.room bus.old }
         ensures fit { StampsFit stamps.new (history (O.trace bus.new)) }
         ensures same { O.same_memory bus.old bus.new }
     {
@@ -469,26 +519,33 @@ impl<L: Lines, V: Veil> Tree<L, V> {
         requires inside { block < tree_blocks self.old.layout }
         requires pinned { Contains pins.now.blocks.items block }
         requires parents { HoldParents pins.now.blocks.items }
-        requires stands { StandsOn self.old (L.lines self.old.lines) (V.veiled self.old.veil) (O.trace bus.old) }
+        requires stands { StandsOn self.old (L.lines self.old.lines) (V.veiled self.old.veil)
+            (O.trace bus.old) }
         requires fit { StampsFit stamps.old (history (O.trace bus.old)) }
         requires has_room { len (L.lines self.old.lines) + 2 ≤ O.room bus.old }
         requires limit { length (O.trace bus.old) + O.room bus.old < 2 ^ 64 }
         requires told { TellsOnly self.old.layout (O.layout bus.old) }
         ensures tree { SameTree self.old self.new }
-        ensures ok { IfOk result (λ _. Moved (scheme_of self.old.layout (V.veiled self.old.veil)) pins.now.blocks.items
+        ensures ok { IfOk result
+            (λ _. Moved (scheme_of self.old.layout (V.veiled self.old.veil)) pins.now.blocks.items
             (state_of (L.lines self.old.lines) self.old.root (O.trace bus.old))
             (state_of (L.lines self.new.lines) self.new.root (O.trace bus.new))
             (uncached (held_in (L.lines self.old.lines)) (block ∷ []))) }
+        ensures reads { ReadsFirst (uncached (held_in (L.lines self.old.lines)) (block ∷ []))
+            (O.trace bus.old) (O.trace bus.new) }
         ensures held { IfOk result (λ _. Holds (L.lines self.new.lines) block) }
-        ensures changed { IfErr result (λ changed. Stops (scheme_of self.old.layout (V.veiled self.old.veil)) pins.now.blocks.items
+        ensures changed { IfErr result (λ changed. Stops
+            (scheme_of self.old.layout (V.veiled self.old.veil)) pins.now.blocks.items
             (state_of (L.lines self.old.lines) self.old.root (O.trace bus.old))
             (state_of (L.lines self.new.lines) self.new.root (O.trace bus.new)) changed.event) }
         ensures still { Holds (L.lines self.old.lines) block → IsOk result
-            × IsStill (L.lines self.old.lines) (L.lines self.new.lines) (O.trace bus.old) (O.trace bus.new) }
+            × IsStill (L.lines self.old.lines) (L.lines self.new.lines)
+            (O.trace bus.old) (O.trace bus.new) }
         ensures room { IfOk result (λ _. O.room bus.old + len (L.lines self.new.lines)
             ≤ O.room bus.new + len (L.lines self.old.lines) + 2) }
         ensures few { O.room bus.old ≤ O.room bus.new + len (L.lines self.old.lines) + 2 }
-        ensures total { length (O.trace bus.new) + O.room bus.new ≡ length (O.trace bus.old) + O.room bus.old }
+        ensures total { length (O.trace bus.new) + O.room bus.new
+            ≡ length (O.trace bus.old) + O.room bus.old }
         ensures fit { StampsFit stamps.new (history (O.trace bus.new)) }
         ensures same { O.same_memory bus.old bus.new }
     {
@@ -529,7 +586,8 @@ impl<L: Lines, V: Veil> Tree<L, V> {
         ensures does { Reads (scheme_of self.old.layout (V.veiled self.old.veil))
             (state_of (L.lines self.old.lines) self.old.root (O.trace bus.old))
             (state_of (L.lines self.new.lines) self.new.root (O.trace bus.new)) block result }
-        ensures count { IsTrue result → len (L.lines self.new.lines) ≡ len (L.lines self.old.lines) + 1 }
+        ensures count { IsTrue result
+            → len (L.lines self.new.lines) ≡ len (L.lines self.old.lines) + 1 }
         ensures room { O.room bus.new + 1 ≡ O.room bus.old }
         ensures same { O.same_memory bus.old bus.new }
     {
@@ -552,7 +610,8 @@ impl<L: Lines, V: Veil> Tree<L, V> {
         ensures tree { SameTree self.old self.new }
         ensures kept { KeepsDigest self.old.layout (L.lines self.old.lines) (L.lines self.new.lines)
             self.old.root self.new.root digest block }
-        ensures room { (other : ℕ) → L.has_room self.new.lines other ≡ L.has_room self.old.lines other }
+        ensures room { (other : ℕ)
+            → L.has_room self.new.lines other ≡ L.has_room self.old.lines other }
     {
         if block == 0 {
             self.root = digest;
@@ -587,7 +646,8 @@ fn is_static(layout: &Layout, block: u32) -> bool
 
 // The payload of a node whose children have these digests.
 fn node_payload(first: &[u8; 20], second: &[u8; 20], third: &[u8; 20]) -> [u8; 64]
-    ensures value { result ≡ bytes_put 40 third.now (bytes_put 20 second.now (bytes_put 0 first.now (replicate 64 0))) }
+    ensures value { result ≡ bytes_put 40 third.now
+        (bytes_put 20 second.now (bytes_put 0 first.now (replicate 64 0))) }
 {
     let mut payload = [0; 64];
     put_digest(&mut payload, 0, first);

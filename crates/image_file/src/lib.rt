@@ -14,6 +14,3 @@ pub use image::{BLOCK_WORDS, HEADER_BYTES, Image, MAGIC, VERSION};
 pub use laws::images_and_files;
 pub use reading::read_image;
 pub use writing::image_bytes;
-
-#[cfg(test)]
-mod tests;

@@ -9,6 +9,3 @@ mod ops;
 pub use code::{Cell, Ir};
 pub use laws::steps_only_add;
 pub use ops::Op;
-
-#[cfg(test)]
-mod tests;

@@ -7,6 +7,3 @@ mod slots;
 
 pub use cache::LineCache;
 pub use lines::{Line, Lines, Pins};
-
-#[cfg(test)]
-mod tests;

@@ -26,6 +26,3 @@ pub use stored::{
     static_place, word_of_bytes,
 };
 pub use trace::Trace;
-
-#[cfg(test)]
-mod tests;

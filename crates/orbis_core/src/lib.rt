@@ -20,6 +20,3 @@ pub use memory::{Memory, Stop, Why};
 pub use port::Port;
 pub use processor::Core;
 pub use stepping::{StepEnd, step};
-
-#[cfg(test)]
-mod tests;

@@ -11,6 +11,3 @@ pub use decoding::{decode, encode_is_injective};
 pub use instruction::Instr;
 pub use printing::listing;
 pub use table::encode;
-
-#[cfg(test)]
-mod tests;

@@ -5,6 +5,3 @@ mod memory;
 mod region;
 
 pub use region::Region;
-
-#[cfg(test)]
-mod tests;

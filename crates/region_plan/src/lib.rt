@@ -9,6 +9,3 @@ mod placement;
 pub use error::PlanError;
 pub use homes::Homes;
 pub use placement::{Placement, plan};
-
-#[cfg(test)]
-mod tests;

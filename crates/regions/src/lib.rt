@@ -18,6 +18,3 @@ pub use layout::{Layout, MAX_DATA_BLOCKS, MAX_LOG_BLOCKS, MAX_SHARED_BYTES};
 pub use modes::ModeUnit;
 pub use rights::{Access, Class, Mode, may};
 pub use tree::{height, leaf};
-
-#[cfg(test)]
-mod tests;

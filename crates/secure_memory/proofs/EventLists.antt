@@ -1,5 +1,5 @@
 -- Several events at once: those of the log keep a tree standing, and those of the tree keep a log standing.
-use Rattle.std.proofs.Common.{◌≡◌, ℕ, suc, List, [], ◌∷◌, ◌++◌, refl, sym, subst, append_assoc}
+use Rattle.std.proofs.Common.{◌≡◌, ℕ, suc, List, [], ◌∷◌, ◌++◌, refl, sym, subst, append_assoc, ◌∙◌}
 use Rattle.aegis_num.specs.declared.storage.Block.{Block}
 use Rattle.aegis_num.specs.declared.storage.Place.TheVariants.{Log}
 use Rattle.std.specs.Prelude.{Result}
@@ -9,7 +9,7 @@ use Rattle.off_chip.specs.declared.event.Event.TheVariants.{BlockRead, BlockWrit
 use Rattle.off_chip.specs.declared.event.Mark.TheVariants.{CheckPassed, CheckStart}
 use Rattle.line_cache.specs.LineMaps.{LineMap}
 use Rattle.hash_tree.specs.Schemes.{Scheme}
-use Rattle.hash_tree.specs.Standing.{Stands}
+use Rattle.hash_tree.specs.Standing.{SameContents, Stands}
 use Rattle.hash_tree.specs.HashTrees.{state_of}
 use Rattle.hash_tree.specs.TreeSteps.{IsElsewhere}
 use Rattle.hash_tree.proofs.LawProofs.{elsewhere-law}
@@ -31,7 +31,16 @@ tree-stays scheme lines root before after (GrowsElsewhere.no_more trace) stands 
 tree-stays scheme lines root before after (GrowsElsewhere.one_more first middle last event grows elsewhere appended) stands =
     (elsewhere-law scheme event lines root middle after (tree-stays scheme lines root before middle grows stands) elsewhere appended).0
 
-log_read-elsewhere : (n : ℕ) (block : Block) → IsElsewhere (BlockRead (Log n) block)
+-- and its contents are the same
+pub tree-same : (scheme : Scheme) (lines : LineMap) (root : List ℕ) (before after : List Event) → GrowsElsewhere before after → Stands scheme (state_of lines root before)
+    → SameContents scheme (state_of lines root before) (state_of lines root after)
+tree-same scheme lines root before after (GrowsElsewhere.no_more trace) stands = record { leaf = λ n from inside. refl }
+tree-same scheme lines root before after (GrowsElsewhere.one_more first middle last event grows elsewhere appended) stands =
+    let earlier = tree-same scheme lines root before middle grows stands in
+    let one = (elsewhere-law scheme event lines root middle after (tree-stays scheme lines root before middle grows stands) elsewhere appended).1 in
+    record { leaf = λ n from inside. one.leaf n from inside ∙ earlier.leaf n from inside }
+
+pub log_read-elsewhere : (n : ℕ) (block : Block) → IsElsewhere (BlockRead (Log n) block)
 log_read-elsewhere n block = λ m same. cc
 
 pub log_write-elsewhere : (n : ℕ) (block : Block) → IsElsewhere (BlockWrite (Log n) block)

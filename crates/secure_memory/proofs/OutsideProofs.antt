@@ -19,13 +19,13 @@ use Rattle.stamp_log.proofs.LawProofs.{foreign-law}
 use Rattle.secure_memory.specs.PrivatePads.{hidden_payload}
 use Rattle.secure_memory.specs.OutsideEvents.{OutsideEventsKeep, is_outside}
 
-outside-elsewhere : (event : Event) → is_outside event ≡ true → IsElsewhere event
+pub outside-elsewhere : (event : Event) → is_outside event ≡ true → IsElsewhere event
 outside-elsewhere (BlockRead at block) outside = cc
 outside-elsewhere (BlockWrite at block) outside = cc
 outside-elsewhere (Note (Drop at)) outside = cc
 outside-elsewhere event outside = λ m same. cc
 
-outside-foreign : (event : Event) → is_outside event ≡ true → is_foreign event ≡ true
+pub outside-foreign : (event : Event) → is_outside event ≡ true → is_foreign event ≡ true
 outside-foreign (BlockRead at block) outside = cc
 outside-foreign (BlockWrite at block) outside = cc
 outside-foreign (Note (Drop at)) outside = cc

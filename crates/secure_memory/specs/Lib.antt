@@ -3,3 +3,8 @@ pub mod PadLaws
 pub mod MemoryStands
 pub mod MemoryEntry
 pub mod OutsideEvents
+pub mod BlockWords
+pub mod MemorySights
+pub mod MemoryAccesses
+pub mod AccessesLeft
+pub mod IdealAccesses

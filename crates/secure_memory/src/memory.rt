@@ -245,7 +245,7 @@ impl<'a, O: OffChip, L: Lines> SecureMemory<'a, O, L> {
 }
 
 // No block is pinned.
-fn no_pins() -> Pins
+pub(crate) fn no_pins() -> Pins
     ensures { result.blocks.items ≡ [] }
 {
     Pins {

@@ -1,4 +1,4 @@
-//! Tests the sources of the standard input, one a line, by the typing rules.
+//! Tests the sources of the standard input, one a line, by the rules of tokens, of the grammar and of types.
 #![tactic(auto)]
 
 use aegis_num::limits::MAX_SOURCE_BYTES;
@@ -14,8 +14,14 @@ fn answer(alloc: Global, text: &[u8]) -> Result<String> {
         text.len() <= MAX_SOURCE_BYTES as usize,
         "the source is too long"
     );
-    let tokens = tokens(alloc, text)?;
-    let program = read_program(alloc, &tokens)?;
+    let tokens = match tokens(alloc, text) {
+        Ok(tokens) => tokens,
+        Err(error) => return Ok(format!(in alloc; "{error}")?),
+    };
+    let program = match read_program(alloc, &tokens) {
+        Ok(program) => program,
+        Err(error) => return Ok(format!(in alloc; "{error}")?),
+    };
     let line = match check(alloc, program) {
         Ok(checked) => {
             let objects = checked.objects().len();

@@ -7,6 +7,3 @@ mod words;
 
 pub use laws::phases;
 pub use phase::{MAX_INSTRUCTIONS, UntrustedEnd, run_untrusted};
-
-#[cfg(test)]
-mod tests;

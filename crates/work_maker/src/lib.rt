@@ -72,6 +72,3 @@ pub fn make_source(alloc: Global, n: u32) -> Result<Vec<u8>, OutOfMemory>
     text.extend_from_slice(b"release(s);}check();return 0;}\n")?;
     Ok(text)
 }
-
-#[cfg(test)]
-mod tests;

@@ -77,21 +77,21 @@ enter_below-third-requires g t c κs within =
     let told : TellsOnly c.args.self.now.layout (g.O.OffChip.layout c.enter_below-second.new.bus) = told-kept _ _ _ (g.met.O.OffChip.same_layout _ _ (g.met.O.OffChip.transitive _ _ _ c.enter_below-first.ensures.same c.enter_below-second.ensures.same)) c.requires.told in
     search (rules, smaller, leaves, inside, added, room, told)
 
-pub write_first-requires-clause-inside : goal.write_first-requires-clause-inside
-write_first-requires-clause-inside g t c =
+pub write-requires-clause-inside : goal.write-requires-clause-inside
+write-requires-clause-inside g t c =
     let p = parts c.args.self.now.layout c.args.levels c.args.block c.if-levels-eq0.false in
     let node = part-node _ _ _ _ p c.requires.inside in
     let all = blocks-three c.args.self.now.layout in
     let inside : c.args.block < tree_blocks c.args.self.now.layout = omega (arith, node, all) in
     inside
 
-pub write_first-requires-clause-has_room : goal.write_first-requires-clause-has_room
-write_first-requires-clause-has_room g t c =
+pub write-requires-clause-has_room : goal.write-requires-clause-has_room
+write-requires-clause-has_room g t c =
     let p = parts c.args.self.now.layout c.args.levels c.args.block c.if-levels-eq0.false in
     omega (arith, p.moves, c.requires.has_room, c.enter_below-first.ensures.room, c.enter_below-second.ensures.room, c.enter_below-third.ensures.room)
 
-pub write_first-requires-clause-told : goal.write_first-requires-clause-told
-write_first-requires-clause-told g t c = told-kept _ _ _ (g.met.O.OffChip.same_layout _ _ (g.met.O.OffChip.transitive _ _ _ (g.met.O.OffChip.transitive _ _ _ c.enter_below-first.ensures.same c.enter_below-second.ensures.same) c.enter_below-third.ensures.same)) c.requires.told
+pub write-requires-clause-told : goal.write-requires-clause-told
+write-requires-clause-told g t c = told-kept _ _ _ (g.met.O.OffChip.same_layout _ _ (g.met.O.OffChip.transitive _ _ _ (g.met.O.OffChip.transitive _ _ _ c.enter_below-first.ensures.same c.enter_below-second.ensures.same) c.enter_below-third.ensures.same)) c.requires.told
 
 pub returns-clause-does : goal.returns-clause-does
 returns-clause-does g t c =
@@ -99,7 +99,7 @@ returns-clause-does g t c =
     let v = c.args.self.now.veil in
     let lawful = keeps-veil c.args.self.now.layout (g.V.Veil.veiled v) (g.V.Veil.nodes v) c.requires.nodes (g.met.V.Veil.own_inverse v) (g.met.V.Veil.keeps_length v) (g.met.V.Veil.leaves_nodes v) in
     let node = part-node _ _ _ _ p c.requires.inside in
-    let back = rw c.node_payload-payload.ensures.value at c.write_first.ensures.does in
+    let back = rw c.node_payload-payload.ensures.value at c.write.ensures.does in
     levels-as _ _ _ _ _ _ _ _ _ _ p.levels_are
     (subtree-node _ _ lawful _ _ _ _ _ _ _ _ _ _ _ _ _ _ _ node c.enter_below-first.ensures.does c.enter_below-second.ensures.does c.enter_below-third.ensures.does back)
 
@@ -111,7 +111,7 @@ returns-clause-added g t c =
 pub returns-clause-room : goal.returns-clause-room
 returns-clause-room g t c =
     let p = parts c.args.self.now.layout c.args.levels c.args.block c.if-levels-eq0.false in
-    omega (arith, p.moves, c.enter_below-first.ensures.room, c.enter_below-second.ensures.room, c.enter_below-third.ensures.room, c.write_first.ensures.room)
+    omega (arith, p.moves, c.enter_below-first.ensures.room, c.enter_below-second.ensures.room, c.enter_below-third.ensures.room, c.write.ensures.room)
 
 pub returns-clause-same : goal.returns-clause-same
-returns-clause-same g t c = g.met.O.OffChip.transitive _ _ _ (g.met.O.OffChip.transitive _ _ _ (g.met.O.OffChip.transitive _ _ _ c.enter_below-first.ensures.same c.enter_below-second.ensures.same) c.enter_below-third.ensures.same) c.write_first.ensures.same
+returns-clause-same g t c = g.met.O.OffChip.transitive _ _ _ (g.met.O.OffChip.transitive _ _ _ (g.met.O.OffChip.transitive _ _ _ c.enter_below-first.ensures.same c.enter_below-second.ensures.same) c.enter_below-third.ensures.same) c.write.ensures.same

@@ -2,7 +2,7 @@ use Rattle.std.proofs.Common.{◌≡◌, ℕ, ◌+◌, ◌-◌, ◌*◌, ◌<◌
 use Rattle.std.specs.FinMap.{len}
 use Rattle.line_cache.specs.LineMaps.{Holds}
 use Rattle.hash_tree.proofs.PathLemmas.{depth-positive, parent-depth, parent-inside, parent-pinned}
-use Rattle.hash_tree.proofs.PathLoads.{path-moved, path-stops}
+use Rattle.hash_tree.proofs.PathLoads.{path-moved, path-reads, path-reads_above, path-stops}
 use Rattle.hash_tree.proofs.tree.Tree.+load_path.Goals as goal
 
 pub parent_of-requires : goal.parent_of-requires
@@ -36,3 +36,15 @@ pub returns-clause-changed : goal.returns-clause-changed
 returns-clause-changed g t c =
     let stops = rw (c.in_ok-load_path.ensures.tree.layout, c.in_ok-load_path.ensures.tree.veil) at c.load_block-2.ensures.changed in
     path-stops c.load_block-2.result _ _ _ _ _ _ c.in_ok-load_path.ensures.ok stops
+
+pub returns-in_err-load_path-clause-reads : goal.returns-in_err-load_path-clause-reads
+returns-in_err-load_path-clause-reads g t c =
+    let some : 0 < c.args.depth = omega (arith, c.if-depth-eq0.false) in
+    path-reads_above _ _ _ c.args.depth c.args.block c.parent_of.result some c.parent_of.ensures c.in_err-load_path.ensures.reads
+
+pub returns-clause-reads : goal.returns-clause-reads
+returns-clause-reads g t c =
+    let some : 0 < c.args.depth = omega (arith, c.if-depth-eq0.false) in
+    let above = depth-positive c.args.depth c.args.block some c.requires.depth in
+    path-reads _ _ _ _ _ _ _ _ _ c.args.depth c.args.block c.parent_of.result some above c.parent_of.ensures c.requires.pinned c.in_ok-load_path.ensures.ok
+    c.load_block-2.ensures.reads

@@ -1,5 +1,5 @@
 use Rattle.std.proofs.Common.{refl}
-use Rattle.hash_tree.proofs.LoadLemmas.{moved-touched, moved-read, stops-read}
+use Rattle.hash_tree.proofs.LoadLemmas.{moved-touched, moved-read, reads-none, reads-one, stops-read}
 use Rattle.hash_tree.proofs.SchemeLemmas.{keeps-veil}
 use Rattle.hash_tree.proofs.WriteBackLemmas.{fits-other}
 use Rattle.hash_tree.proofs.tree.Tree.load_block.Goals as goal
@@ -29,3 +29,16 @@ returns-clause-ok g c =
 
 pub returns-clause-fit : goal.returns-clause-fit
 returns-clause-fit g c = fits-other _ _ _ _ c.make_room.ensures.fit refl c.read.ensures.does.event
+
+pub returns-then-holds-clause-reads : goal.returns-then-holds-clause-reads
+returns-then-holds-clause-reads g c = reads-none _ _
+
+pub returns-then-not-read-clause-reads : goal.returns-then-not-read-clause-reads
+returns-then-not-read-clause-reads g c =
+    let moved = rw (← c.self.view_is) at c.make_room.ensures.does in
+    rw (← c.self.view_is) (reads-one _ _ _ _ _ _ _ _ _ c.args.block _ moved c.if-not-read.ensures.does.event c.if-holds.ensures.value)
+
+pub returns-clause-reads : goal.returns-clause-reads
+returns-clause-reads g c =
+    let moved = rw (← c.self.view_is) at c.make_room.ensures.does in
+    rw (← c.self.view_is) (reads-one _ _ _ _ _ _ _ _ _ c.args.block _ moved c.if-not-read.ensures.does.event c.if-holds.ensures.value)

@@ -1,17 +1,12 @@
-use Rattle.std.proofs.Common.{sym, ap, ◌∙◌}
-use Rattle.line_cache.specs.LineMaps.{parent_block}
-use Rattle.hash_tree.proofs.CallLemmas.{stamps-below, held-inside, holds-clean}
-use Rattle.hash_tree.proofs.SchemeLemmas.{writes-back}
+use Rattle.std.proofs.Common.{ap, ◌∙◌}
 use Rattle.std.specs.FinMap.{len}
-use Rattle.line_cache.specs.LineMaps.{LineMap}
-use Rattle.hash_tree.proofs.EvictLemmas.{keeps-len, len-clean, back-holds}
+use Rattle.line_cache.specs.LineMaps.{LineMap, parent_block}
+use Rattle.hash_tree.proofs.CallLemmas.{held-below, holds-clean}
+use Rattle.hash_tree.proofs.EvictLemmas.{back-holds, keeps-len, len-clean, writes-back_payload}
 use Rattle.hash_tree.proofs.tree.Tree.write_back.Goals as goal
 
-pub fresh-stamp-requires : goal.fresh-stamp-requires
-fresh-stamp-requires g c = stamps-below _ _ _ c.requires.fit c.requires.limit c.requires.has_room
-
-pub write_block-requires-clause-inside : goal.write_block-requires-clause-inside
-write_block-requires-clause-inside g c = held-inside _ _ _ _ _ _ _ c.requires.told c.requires.stands c.requires.held
+pub write-digest-requires-clause-inside : goal.write-digest-requires-clause-inside
+write-digest-requires-clause-inside g c = held-below _ _ _ _ _ _ c.requires.stands c.requires.held
 
 pub keep_digest-requires : goal.keep_digest-requires
 keep_digest-requires g c = record {
@@ -24,8 +19,9 @@ keep_digest-requires g c = record {
 pub returns-clause-step : goal.returns-clause-step
 returns-clause-step g c =
     let stands = rw (← c.self.view_is) at c.requires.stands in
-    rw (← c.self.view_is) (writes-back _ _ _ _ _ _ _ _ _ _ _ _ _ _ _ (c.fresh-stamp.ensures.next ∙ sym c.fresh-stamp.ensures.kept) c.block_digest.ensures.value
-    c.payload.ensures.value c.veil.ensures.value c.clean.ensures.lines (λ m line held. stands.long m line held) c.write_block.ensures.event.trace c.keep_digest.ensures.kept)
+    let back = rw (← c.self.view_is) at c.write-digest.ensures.does in
+    rw (← c.self.view_is) (writes-back_payload _ _ _ _ _ _ _ _ _ _ _ _ _ c.payload.ensures.value c.clean.ensures.lines (λ m line held. stands.long m line held)
+    back c.write-digest.ensures.fit c.keep_digest.ensures.kept)
 
 pub returns-clause-count : goal.returns-clause-count
 returns-clause-count g c =

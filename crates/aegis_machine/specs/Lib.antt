@@ -1,0 +1,6 @@
+pub mod FuelTests
+pub mod Guards
+pub mod Outcomes
+pub mod Releases
+pub mod Stores
+pub mod Ties

@@ -1,0 +1,61 @@
+//! Memory on a bus, as the machine has it.
+ghost use Rattle.std.specs.Prelude.{◌≡◌, ℕ, ◌+◌, ◌*◌, ◌<◌, ◌≤◌, true, [], ◌∷◌, IsTrue, OnOk, ◌↔◌};
+ghost use Rattle.off_chip.specs.declared.Event.TheVariants.{Note};
+ghost use Rattle.off_chip.specs.Histories.{history};
+ghost use Rattle.off_chip.specs.Epochs.{IsQuiet};
+ghost use Rattle.bus_machine.specs.BusAccesses.{Sight};
+ghost use Rattle.aegis_machine.specs.Guards.{GoesFurther, LeadsOn, SetsPrivate, is_own_mark};
+
+use off_chip::Mark;
+use orbis_core::Memory;
+use regions::Mode;
+use stamp_log::LogCause;
+
+/// A memory on a bus, with all that the machine asks of it beside the five accesses.
+pub trait Guarded: Memory {
+    ghost use Rattle.orbis_core.specs.Accesses.{LeaveOneFewer};
+    ghost use Rattle.bus_machine.specs.BusAccesses.{MeetsBus};
+
+    /// How it is seen.
+    ghost sight: { Sight Self };
+
+    /// How many further events there is room for on its bus.
+    ghost room: { Self → ℕ };
+
+    /// The mode.
+    fn mode(&self) -> Mode
+        ensures { result ≡ sight.mode self.now };
+
+    /// Whether no block of the log was read since the latest check that passed.
+    fn quiet(&self) -> bool
+        ensures { IsTrue result ↔ IsQuiet (history (sight.trace self.now)) };
+
+    /// Notes that an instruction is done or that bytes are sent.
+    fn note(&mut self, mark: Mark)
+        requires has_room { 0 < room self.old }
+        requires own { is_own_mark mark ≡ true }
+        ensures event { LeadsOn sight (Note mark ∷ []) self.old self.new }
+        ensures room { room self.new + 1 ≡ room self.old };
+
+    /// Lets the program use its private data from now on, or no longer.
+    fn set_private(&mut self, on: bool)
+        ensures sets { SetsPrivate sight on self.old self.new }
+        ensures room { room self.new ≡ room self.old };
+
+    /// Checks all reads of the log since the latest check that passed. Takes room for 1,058 events.
+    fn check(&mut self) -> Result<(), LogCause>
+        requires has_room { 1058 ≤ room self.old }
+        ensures passed { OnOk result (GoesFurther sight self.old self.new) }
+        ensures room { room self.old ≤ room self.new + 1058 };
+
+    /// Runs untrusted code between a mark of suspension and one of resumption. Takes room for 16,386 events.
+    fn suspend(&mut self)
+        requires has_room { 16386 ≤ room self.old }
+        ensures phase { GoesFurther sight self.old self.new }
+        ensures room { room self.old ≤ room self.new + 16386 };
+
+    /// Its five accesses are told in the form of a bus, and each takes at most 160 events.
+    ghost meets: { MeetsBus sight Self.accesses };
+
+    ghost spends: { LeaveOneFewer Self.accesses (λ (memory : Self) (n : ℕ). 160 * n ≤ room memory) };
+}

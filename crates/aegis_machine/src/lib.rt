@@ -1,0 +1,19 @@
+//! The machine: the secure program, run over a bus to memory that is not trusted.
+#![tactic(auto)]
+
+mod ends;
+mod guarded;
+mod held;
+mod instructions;
+mod laws;
+mod store;
+
+pub use ends::{End, has_fuel};
+pub use guarded::Guarded;
+pub use held::{Held, MAX_HELD};
+pub use instructions::{Done, Fault, instruction, permits};
+pub use laws::steps_stay_tied;
+pub use store::Store;
+
+#[cfg(test)]
+mod tests;
