@@ -4,6 +4,7 @@ use Rattle.std.proofs.Common.{◌≡◌, ◌⊎◌, Bool, inl, inr, ⊎_elim, �
 use Rattle.aegis_edge.specs.Folder.{Files, Asking, IsMissing, IsTooLong}
 use Rattle.c_grammar.specs.declared.item.Program.{Program}
 use Rattle.aegis_words.specs.declared.file.File.{File}
+use Rattle.aegis_words.specs.declared.file.File.TheVariants as kinds
 use Rattle.aegis_words.specs.declared.file.File.TheVariants.{Source, Script, Input}
 use Rattle.aegis_words.specs.CommandTable.{Command, step_after}
 use Rattle.aegis_words.specs.CommandTable as asks
@@ -11,14 +12,20 @@ use Rattle.aegis_words.specs.FileReading.{HasText, Passes}
 use Rattle.aegis_words.specs.FileSteps.{FileStep, limit_for}
 use Rattle.aegis_words.proofs.FileReadingLemmas.{text_once, text_missing, text_too_long, missing_too_long, one_place}
 use Rattle.aegis_run.specs.declared.ends.TopEnd.{TopEnd}
-use Rattle.aegis_run.specs.declared.ends.TopEnd.TheVariants.{Run, Mean, Usage, TooLong, Token, Syntax, Typing, NotYet, NoFile, ReadFault, WriteFault, OutOfMemory}
+use Rattle.aegis_run.specs.declared.ends.TopEnd.TheVariants.{Run, Mean, Done, Usage, TooLong, Token, Syntax, Typing, Plan, Image, NotYet, NoFile, ReadFault, WriteFault, OutOfMemory}
 use Rattle.aegis_run.specs.Answers.{IsRefusal, IsFailure}
 use Rattle.aegis_run.specs.Causes.{AreTold, Cause, IfRun, Serves, Stops, IsOwn, Completes, CauseAt, CauseAtFile, HasCause, IsStoppedByText, RefusesWhere}
-use Rattle.aegis_run.specs.Literals.{literals_of}
+use Rattle.image_file.specs.declared.error.ImageError.{ImageError}
+use Rattle.image_file.specs.declared.error.ImageError.TheVariants as errors
+use Rattle.image_file.specs.ImageFaults.{first_fault}
+use Rattle.region_plan.specs.declared.PlanError.{PlanError}
+use Rattle.compiler.specs.MemoryUse.{source_fault}
+use Rattle.aegis_run.specs.BuildCommand.{IsOwnOfBuild, ServesBuild, StopsBuild}
+use Rattle.aegis_run.specs.ListCommand.{IsOwnOfList, ServesList, StopsList}
 use Rattle.aegis_run.specs.MeanCommand.{IsOwnOfMean, ServesMean, StopsMean}
 use Rattle.aegis_run.specs.RunCommand.{RunCommand, IsOwnOfRun, ServesRun, StopsRun}
 use Rattle.aegis_run.specs.Report.{Notes, line_of}
-use Rattle.aegis_run.specs.SourceTexts.{IsSource, SourceFault}
+use Rattle.aegis_run.specs.SourceTexts.{BuildFault, HasPlanFault, IsBuildable, IsSource, SourceFault}
 use Rattle.aegis_run.proofs.SourceLemmas.{accepted_fault, one_fault, one_text}
 
 -- ---- a text lets a command go on, or stops it in one way
@@ -27,108 +34,166 @@ use Rattle.aegis_run.proofs.SourceLemmas.{accepted_fault, one_fault, one_text}
 serves_source : (text : List ℕ) (end : TopEnd) (program : Program) → IsSource text program → SourceFault text end → ⊥
 serves_source text end program is fault = accepted_fault text program end is.is_text is.typed fault
 
--- the program of a text releases literals or does not
-one_form : (text : List ℕ) (p q : Program) (literals : List ℕ) → IsSource text p → IsSource text q → literals_of p ≡ Some literals → literals_of q ≡ None → ⊥
-one_form text p q literals one two some none =
-    let same : p ≡ q = one_text text p q one.is_text two.is_text in
-    let both : Some literals ≡ None = sym some ∙ ap literals_of same ∙ none in cc
+-- why a text has no image: a limit that its program passes, or a fault of the text
+build_fault : (text : List ℕ) (end : TopEnd) → BuildFault text end → ((error : PlanError) × (end ≡ Plan error) × HasPlanFault text error) ⊎ SourceFault text end
+build_fault text Done fault = inr fault
+build_fault text (Run how) fault = inr fault
+build_fault text (Mean how) fault = inr fault
+build_fault text Usage fault = inr fault
+build_fault text (TooLong file) fault = inr fault
+build_fault text (NoFile file) fault = inr fault
+build_fault text (Token error) fault = inr fault
+build_fault text (Syntax error) fault = inr fault
+build_fault text (Typing error) fault = inr fault
+build_fault text (Plan error) fault = inl (error, refl, fault)
+build_fault text (Image error) fault = inr fault
+build_fault text (NotYet file) fault = inr fault
+build_fault text ReadFault fault = inr fault
+build_fault text WriteFault fault = inr fault
+build_fault text OutOfMemory fault = inr fault
+
+one_plan : (a b : PlanError) → Some a ≡ Some b → a ≡ b
+one_plan a b same = cc
+
+-- a program passes a limit or does not
+fits_or_not : (text : List ℕ) (program : Program) (error : PlanError) → IsSource text program → source_fault program ≡ None → HasPlanFault text error → ⊥
+fits_or_not text program error is fits fault =
+    let same : program ≡ fault.program = one_text text program fault.program is.is_text fault.is_source.is_text in
+    let both : None ≡ Some error = sym fits ∙ ap source_fault same ∙ fault.passes in cc
+
+-- a source that has an image has no such fault
+buildable_faultless : (text : List ℕ) (end : TopEnd) → IsBuildable text → BuildFault text end → ⊥
+buildable_faultless text end serves stops = elim (build_fault text end stops) [
+  | inl full ↦ fits_or_not text serves.program full.0 serves.is_source serves.fits full.2
+  | inr fault ↦ serves_source text end serves.program serves.is_source fault
+]
+
+-- and a text has one
+one_build_fault : (text : List ℕ) (a b : TopEnd) → BuildFault text a → BuildFault text b → a ≡ b
+one_build_fault text a b one two = go (build_fault text a one) (build_fault text b two)
+  where
+    go : ((error : PlanError) × (a ≡ Plan error) × HasPlanFault text error) ⊎ SourceFault text a
+        → ((error : PlanError) × (b ≡ Plan error) × HasPlanFault text error) ⊎ SourceFault text b → a ≡ b
+    go (inl one) (inl two) =
+        let same : one.2.program ≡ two.2.program = one_text text one.2.program two.2.program one.2.is_source.is_text two.2.is_source.is_text in
+        let both : Some one.0 ≡ Some two.0 = sym one.2.passes ∙ ap source_fault same ∙ two.2.passes in
+        one.1 ∙ ap Plan (one_plan one.0 two.0 both) ∙ sym two.1
+    go (inl one) (inr two) = absurd (serves_source text b one.2.program one.2.is_source two)
+    go (inr one) (inl two) = absurd (serves_source text a two.2.program two.2.is_source one)
+    go (inr one) (inr two) = one_fault text a b one two
+
+-- what stops a run at its script
+script_stop : (text : List ℕ) (end : TopEnd) → StopsRun Script text end → end ≡ NotYet Script
+script_stop text (NotYet Script) stops = refl
+script_stop text (NotYet Source) stops = absurd stops
+script_stop text (NotYet Input) stops = absurd stops
+script_stop text (NotYet kinds.Image) stops = absurd stops
+script_stop text Done stops = absurd stops
+script_stop text (Run how) stops = absurd stops
+script_stop text (Mean how) stops = absurd stops
+script_stop text Usage stops = absurd stops
+script_stop text (TooLong file) stops = absurd stops
+script_stop text (NoFile file) stops = absurd stops
+script_stop text (Token error) stops = absurd stops
+script_stop text (Syntax error) stops = absurd stops
+script_stop text (Typing error) stops = absurd stops
+script_stop text (Plan error) stops = absurd stops
+script_stop text (Image error) stops = absurd stops
+script_stop text ReadFault stops = absurd stops
+script_stop text WriteFault stops = absurd stops
+script_stop text OutOfMemory stops = absurd stops
 
 run_goes_on : (file : File) (text : List ℕ) (end : TopEnd) → ServesRun file text → StopsRun file text end → ⊥
-run_goes_on Source text (NotYet Source) serves stops = one_form text serves.0 stops.0 serves.2.0 serves.1 stops.1 serves.2.1 stops.2
-run_goes_on Source text (NotYet Script) serves stops = serves_source text (NotYet Script) serves.0 serves.1 stops
-run_goes_on Source text (NotYet Input) serves stops = serves_source text (NotYet Input) serves.0 serves.1 stops
-run_goes_on Source text (Token error) serves stops = serves_source text (Token error) serves.0 serves.1 stops
-run_goes_on Source text (Syntax error) serves stops = serves_source text (Syntax error) serves.0 serves.1 stops
-run_goes_on Source text (Typing error) serves stops = serves_source text (Typing error) serves.0 serves.1 stops
-run_goes_on Source text Usage serves stops = stops
-run_goes_on Source text OutOfMemory serves stops = stops
-run_goes_on Source text (TooLong file) serves stops = stops
-run_goes_on Source text (NoFile file) serves stops = stops
-run_goes_on Source text ReadFault serves stops = stops
-run_goes_on Source text WriteFault serves stops = stops
-run_goes_on Source text (Run how) serves stops = stops
-run_goes_on Source text (Mean how) serves stops = stops
-run_goes_on Script text (NotYet Script) serves stops = stops serves
-run_goes_on Script text (NotYet Source) serves stops = stops
-run_goes_on Script text (NotYet Input) serves stops = stops
-run_goes_on Script text (Token error) serves stops = stops
-run_goes_on Script text (Syntax error) serves stops = stops
-run_goes_on Script text (Typing error) serves stops = stops
-run_goes_on Script text Usage serves stops = stops
-run_goes_on Script text OutOfMemory serves stops = stops
-run_goes_on Script text (TooLong file) serves stops = stops
-run_goes_on Script text (NoFile file) serves stops = stops
-run_goes_on Script text ReadFault serves stops = stops
-run_goes_on Script text WriteFault serves stops = stops
-run_goes_on Script text (Run how) serves stops = stops
-run_goes_on Script text (Mean how) serves stops = stops
+run_goes_on Source text end serves stops = buildable_faultless text end serves stops
+run_goes_on Script text end serves stops = let P : TopEnd → Type 0 = λ end. StopsRun Script text end in let held = subst P (script_stop text end stops) stops in held serves
 run_goes_on Input text end serves stops = stops
+run_goes_on kinds.Image text end serves stops = stops
+
+run_stops_once : (file : File) (text : List ℕ) (a b : TopEnd) → StopsRun file text a → StopsRun file text b → a ≡ b
+run_stops_once Source text a b one two = one_build_fault text a b one two
+run_stops_once Script text a b one two = script_stop text a one ∙ sym (script_stop text b two)
+run_stops_once Input text a b one two = absurd one
+run_stops_once kinds.Image text a b one two = absurd one
+
+build_goes_on : (file : File) (text : List ℕ) (end : TopEnd) → ServesBuild file text → StopsBuild file text end → ⊥
+build_goes_on Source text end serves stops = buildable_faultless text end serves stops
+build_goes_on Script text end serves stops = stops
+build_goes_on Input text end serves stops = stops
+build_goes_on kinds.Image text end serves stops = stops
+
+build_stops_once : (file : File) (text : List ℕ) (a b : TopEnd) → StopsBuild file text a → StopsBuild file text b → a ≡ b
+build_stops_once Source text a b one two = one_build_fault text a b one two
+build_stops_once Script text a b one two = absurd one
+build_stops_once Input text a b one two = absurd one
+build_stops_once kinds.Image text a b one two = absurd one
 
 mean_goes_on : (file : File) (text : List ℕ) (end : TopEnd) → ServesMean file text → StopsMean file text end → ⊥
 mean_goes_on Source text end serves stops = serves_source text end serves.0 serves.1 stops
 mean_goes_on Script text end serves stops = stops
 mean_goes_on Input text end serves stops = stops
+mean_goes_on kinds.Image text end serves stops = stops
+
+one_error : (a b : ImageError) → Some a ≡ Some b → a ≡ b
+one_error a b same = cc
+
+-- a `list` is stopped by the first fault of its file
+image_fault : (text : List ℕ) (end : TopEnd) → StopsList kinds.Image text end → (error : ImageError) × (end ≡ Image error) × (first_fault text ≡ Some error)
+image_fault text Done stops = absurd stops
+image_fault text (Run how) stops = absurd stops
+image_fault text (Mean how) stops = absurd stops
+image_fault text Usage stops = absurd stops
+image_fault text (TooLong file) stops = absurd stops
+image_fault text (NoFile file) stops = absurd stops
+image_fault text (Token error) stops = absurd stops
+image_fault text (Syntax error) stops = absurd stops
+image_fault text (Typing error) stops = absurd stops
+image_fault text (Plan error) stops = absurd stops
+image_fault text (NotYet file) stops = absurd stops
+image_fault text ReadFault stops = absurd stops
+image_fault text WriteFault stops = absurd stops
+image_fault text OutOfMemory stops = absurd stops
+image_fault text (Image (errors.Short at)) stops = ((errors.Short at), refl, stops)
+image_fault text (Image errors.Magic) stops = (errors.Magic, refl, stops)
+image_fault text (Image (errors.Version found)) stops = ((errors.Version found), refl, stops)
+image_fault text (Image (errors.Field at)) stops = ((errors.Field at), refl, stops)
+image_fault text (Image (errors.Trailing at)) stops = ((errors.Trailing at), refl, stops)
+image_fault text (Image errors.OutOfMemory) stops = absurd stops
+
+list_goes_on : (file : File) (text : List ℕ) (end : TopEnd) → ServesList file text → StopsList file text end → ⊥
+list_goes_on kinds.Image text end serves stops =
+    let fault = image_fault text end stops in
+    let both : None ≡ Some fault.0 = sym serves ∙ fault.2 in cc
+list_goes_on Source text end serves stops = stops
+list_goes_on Script text end serves stops = stops
+list_goes_on Input text end serves stops = stops
+
+list_stops_once : (file : File) (text : List ℕ) (a b : TopEnd) → StopsList file text a → StopsList file text b → a ≡ b
+list_stops_once kinds.Image text a b one two =
+    let first = image_fault text a one in
+    let second = image_fault text b two in
+    let both : Some first.0 ≡ Some second.0 = sym first.2 ∙ second.2 in
+    first.1 ∙ ap Image (one_error first.0 second.0 both) ∙ sym second.1
+list_stops_once Source text a b one two = absurd one
+list_stops_once Script text a b one two = absurd one
+list_stops_once Input text a b one two = absurd one
 
 goes_on : (command : Command) (file : File) (text : List ℕ) (end : TopEnd) → Serves command file text → Stops command file text end → ⊥
 goes_on (asks.Run names) file text end serves stops = run_goes_on file text end serves stops
 goes_on (asks.Mean names) file text end serves stops = mean_goes_on file text end serves stops
-
--- what stops a run at its source: its form, or a fault
-run_stop : (text : List ℕ) (end : TopEnd) → StopsRun Source text end → ((end ≡ NotYet Source) × ((program : Program) × IsSource text program × (literals_of program ≡ None))) ⊎ SourceFault text end
-run_stop text (NotYet Source) stops = inl (refl, stops)
-run_stop text (NotYet Script) stops = inr stops
-run_stop text (NotYet Input) stops = inr stops
-run_stop text (Token error) stops = inr stops
-run_stop text (Syntax error) stops = inr stops
-run_stop text (Typing error) stops = inr stops
-run_stop text Usage stops = inr stops
-run_stop text OutOfMemory stops = inr stops
-run_stop text (TooLong file) stops = inr stops
-run_stop text (NoFile file) stops = inr stops
-run_stop text ReadFault stops = inr stops
-run_stop text WriteFault stops = inr stops
-run_stop text (Run how) stops = inr stops
-run_stop text (Mean how) stops = inr stops
-
-script_stop : (text : List ℕ) (end : TopEnd) → StopsRun Script text end → end ≡ NotYet Script
-script_stop text (NotYet Script) stops = refl
-script_stop text (NotYet Source) stops = absurd stops
-script_stop text (NotYet Input) stops = absurd stops
-script_stop text (Token error) stops = absurd stops
-script_stop text (Syntax error) stops = absurd stops
-script_stop text (Typing error) stops = absurd stops
-script_stop text Usage stops = absurd stops
-script_stop text OutOfMemory stops = absurd stops
-script_stop text (TooLong file) stops = absurd stops
-script_stop text (NoFile file) stops = absurd stops
-script_stop text ReadFault stops = absurd stops
-script_stop text WriteFault stops = absurd stops
-script_stop text (Run how) stops = absurd stops
-script_stop text (Mean how) stops = absurd stops
-
-run_stops_once : (file : File) (text : List ℕ) (a b : TopEnd) → StopsRun file text a → StopsRun file text b → a ≡ b
-run_stops_once Source text a b one two = go (run_stop text a one) (run_stop text b two)
-  where
-    Form : Type 0
-    Form = (program : Program) × IsSource text program × (literals_of program ≡ None)
-
-    go : ((a ≡ NotYet Source) × ((program : Program) × IsSource text program × (literals_of program ≡ None))) ⊎ SourceFault text a
-        → ((b ≡ NotYet Source) × ((program : Program) × IsSource text program × (literals_of program ≡ None))) ⊎ SourceFault text b → a ≡ b
-    go (inl one) (inl two) = one.0 ∙ sym two.0
-    go (inl one) (inr two) = absurd (serves_source text b one.1.0 one.1.1 two)
-    go (inr one) (inl two) = absurd (serves_source text a two.1.0 two.1.1 one)
-    go (inr one) (inr two) = one_fault text a b one two
-run_stops_once Script text a b one two = script_stop text a one ∙ sym (script_stop text b two)
-run_stops_once Input text a b one two = absurd one
+goes_on (asks.Build names) file text end serves stops = build_goes_on file text end serves stops
+goes_on (asks.Listing names) file text end serves stops = list_goes_on file text end serves stops
 
 mean_stops_once : (file : File) (text : List ℕ) (a b : TopEnd) → StopsMean file text a → StopsMean file text b → a ≡ b
 mean_stops_once Source text a b one two = one_fault text a b one two
 mean_stops_once Script text a b one two = absurd one
 mean_stops_once Input text a b one two = absurd one
+mean_stops_once kinds.Image text a b one two = absurd one
 
 stops_once : (command : Command) (file : File) (text : List ℕ) (a b : TopEnd) → Stops command file text a → Stops command file text b → a ≡ b
 stops_once (asks.Run names) file text a b one two = run_stops_once file text a b one two
 stops_once (asks.Mean names) file text a b one two = mean_stops_once file text a b one two
+stops_once (asks.Build names) file text a b one two = build_stops_once file text a b one two
+stops_once (asks.Listing names) file text a b one two = list_stops_once file text a b one two
 
 -- ---- a file has one answer
 
@@ -146,9 +211,12 @@ at_file files command step before now (Token error) cause = stopped cause
 at_file files command step before now (Syntax error) cause = stopped cause
 at_file files command step before now (Typing error) cause = stopped cause
 at_file files command step before now (NotYet file) cause = stopped cause
+at_file files command step before now (Plan error) cause = stopped cause
+at_file files command step before now (Image error) cause = stopped cause
 at_file files command step before now ReadFault cause = failed tt
 at_file files command step before now OutOfMemory cause = failed tt
 at_file files command step before now Usage cause = absurd cause
+at_file files command step before now Done cause = absurd cause
 at_file files command step before now (Run end) cause = absurd cause
 at_file files command step before now (Mean end) cause = absurd cause
 at_file files command step before now WriteFault cause = absurd cause
@@ -197,7 +265,10 @@ refusal_sound (Token error) refusal failure = failure
 refusal_sound (Syntax error) refusal failure = failure
 refusal_sound (Typing error) refusal failure = failure
 refusal_sound (NotYet file) refusal failure = failure
+refusal_sound (Plan error) refusal failure = failure
+refusal_sound (Image error) refusal failure = failure
 refusal_sound Usage refusal failure = refusal
+refusal_sound Done refusal failure = refusal
 refusal_sound ReadFault refusal failure = refusal
 refusal_sound OutOfMemory refusal failure = refusal
 refusal_sound WriteFault refusal failure = refusal
@@ -212,7 +283,10 @@ run_own (Token error) refusal own = own
 run_own (Syntax error) refusal own = own
 run_own (Typing error) refusal own = own
 run_own (NotYet file) refusal own = own
+run_own (Plan error) refusal own = own
+run_own (Image error) refusal own = own
 run_own Usage refusal own = own
+run_own Done refusal own = own
 run_own ReadFault refusal own = own
 run_own OutOfMemory refusal own = own
 run_own WriteFault refusal own = own
@@ -228,19 +302,59 @@ mean_own (Token error) refusal own = own
 mean_own (Syntax error) refusal own = own
 mean_own (Typing error) refusal own = own
 mean_own (NotYet file) refusal own = own
+mean_own (Plan error) refusal own = own
+mean_own (Image error) refusal own = own
 mean_own Usage refusal own = own
+mean_own Done refusal own = own
 mean_own ReadFault refusal own = own
 mean_own OutOfMemory refusal own = own
+
+list_own : (end : TopEnd) → IsRefusal end → IsOwnOfList end → ⊥
+list_own Done refusal own = refusal
+list_own (Run how) refusal own = own
+list_own (Mean how) refusal own = own
+list_own Usage refusal own = own
+list_own (TooLong file) refusal own = own
+list_own (NoFile file) refusal own = own
+list_own (Token error) refusal own = own
+list_own (Syntax error) refusal own = own
+list_own (Typing error) refusal own = own
+list_own (Plan error) refusal own = own
+list_own (NotYet file) refusal own = own
+list_own ReadFault refusal own = own
+list_own WriteFault refusal own = refusal
+list_own OutOfMemory refusal own = own
+list_own (Image error) refusal own = own
+
+build_own : (end : TopEnd) → IsRefusal end → IsOwnOfBuild end → ⊥
+build_own Done refusal own = refusal
+build_own (Run how) refusal own = own
+build_own (Mean how) refusal own = own
+build_own Usage refusal own = own
+build_own (TooLong file) refusal own = own
+build_own (NoFile file) refusal own = own
+build_own (Token error) refusal own = own
+build_own (Syntax error) refusal own = own
+build_own (Typing error) refusal own = own
+build_own (Plan error) refusal own = own
+build_own (Image error) refusal own = own
+build_own (NotYet file) refusal own = own
+build_own ReadFault refusal own = own
+build_own WriteFault refusal own = refusal
+build_own OutOfMemory refusal own = own
 
 own_refusal : (command : Command) (end : TopEnd) → IsRefusal end → IsOwn command end → ⊥
 own_refusal (asks.Run names) end refusal own = run_own end refusal own
 own_refusal (asks.Mean names) end refusal own = mean_own end refusal own
+own_refusal (asks.Build names) end refusal own = build_own end refusal own
+own_refusal (asks.Listing names) end refusal own = list_own end refusal own
 
 -- an answer is a failure or is not
 sound_or_not : (end : TopEnd) → IsFailure end ⊎ (IsFailure end → ⊥)
 sound_or_not ReadFault = inl tt
 sound_or_not OutOfMemory = inl tt
 sound_or_not Usage = inr (λ failure. failure)
+sound_or_not Done = inr (λ failure. failure)
 sound_or_not (Run how) = inr (λ failure. failure)
 sound_or_not (Mean how) = inr (λ failure. failure)
 sound_or_not WriteFault = inr (λ failure. failure)
@@ -250,6 +364,8 @@ sound_or_not (Token error) = inr (λ failure. failure)
 sound_or_not (Syntax error) = inr (λ failure. failure)
 sound_or_not (Typing error) = inr (λ failure. failure)
 sound_or_not (NotYet file) = inr (λ failure. failure)
+sound_or_not (Plan error) = inr (λ failure. failure)
+sound_or_not (Image error) = inr (λ failure. failure)
 
 -- at one place a refusal is the answer
 one_at : (files : Files) (command : Command) (step : Option FileStep) (f g h i : ℕ) (end refusal : TopEnd) → IsRefusal refusal
@@ -297,6 +413,8 @@ no_usage : (files : Option Files) (command : Command) (step : Option FileStep) (
 no_usage files command (Some step) before now cause = cause
 no_usage files (asks.Run names) None before now (inl own) = own
 no_usage files (asks.Mean names) None before now (inl own) = own
+no_usage files (asks.Build names) None before now (inl own) = own
+no_usage files (asks.Listing names) None before now (inl own) = own
 no_usage files command None before now (inr same) = cc
 
 pub usage_where : (files : Option Files) (row : Option Command) (before now : ℕ) (old new : Option (List Asking)) (end : TopEnd) → Cause files row before now old new end
@@ -331,3 +449,5 @@ run_line files row end answer retired noted old new before after same run notes 
     go None run = tt
     go (Some (asks.Run names)) run = (retired, run, notes)
     go (Some (asks.Mean names)) run = tt
+    go (Some (asks.Build names)) run = tt
+    go (Some (asks.Listing names)) run = tt

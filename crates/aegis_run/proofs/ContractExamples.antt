@@ -2,17 +2,21 @@
 use Rattle.std.proofs.Common.{◌≡◌, ◌⊎◌, inl, inr, ℕ, true, false, List, [], ◌∷◌, Option, None, Some, refl, arith}
 use Rattle.aegis_edge.specs.Folder.{Files, Asking, Asks}
 use Rattle.aegis_words.specs.declared.file.File.TheVariants.{Source, Script, Input}
+use Rattle.aegis_words.specs.declared.file.File.TheVariants as kinds
 use Rattle.aegis_words.specs.CommandTable.{Command, step_after}
 use Rattle.aegis_words.specs.CommandTable as asks
 use Rattle.aegis_words.specs.FileReading.{ArePassed, Passes, steps_asked}
 use Rattle.aegis_words.specs.FileSteps.{FileStep, askings_for}
+use Rattle.aegis_words.specs.ListWordRow.{ListNames}
 use Rattle.aegis_words.specs.MeanWordRow.{MeanNames}
 use Rattle.aegis_words.specs.RunWordRow.{RunNames}
 use Rattle.c_evaluator.specs.declared.mean_end.MeanEnd.TheVariants as mean
 use Rattle.aegis_run.specs.declared.ends.End.TheVariants.{Ended, WriteFault as ByteLost}
-use Rattle.aegis_run.specs.declared.ends.TopEnd.TheVariants.{Run, Mean, Usage, TooLong, NotYet, NoFile, ReadFault, WriteFault, OutOfMemory}
+use Rattle.aegis_run.specs.declared.ends.TopEnd.TheVariants.{Done, Run, Mean, Usage, Image, TooLong, NotYet, NoFile, ReadFault, WriteFault, OutOfMemory}
 use Rattle.aegis_run.specs.Answers.{IsFailure, IsFileFault, IsRefusal, IsWriteFault, RisesWhere}
-use Rattle.aegis_run.specs.Causes.{AreTold, Cause, CauseAt, CauseAtFile, IfMean, IfRun, IsAnswered, IsOwn, Serves}
+use Rattle.aegis_run.specs.Causes.{AreTold, Cause, CauseAt, CauseAtFile, IfList, IfMean, IfRun, IsAnswered, IsOwn, Serves}
+use Rattle.image_file.specs.declared.error.ImageError.TheVariants as errors
+use Rattle.aegis_run.specs.ListCommand.{ListCommand, ServesList, StopsList}
 use Rattle.aegis_run.specs.MeanCommand.{MeanCommand, ServesMean, StopsMean}
 use Rattle.aegis_run.specs.Report.{Notes}
 use Rattle.aegis_run.specs.RunCommand.{RunCommand, ServesRun, StopsRun}
@@ -22,6 +26,9 @@ run_names = record { source = 1 ∷ []; script = 2 ∷ []; input = 3 ∷ []; fue
 
 abbrev mean_names : MeanNames
 mean_names = record { source = 1 ∷ []; input = 3 ∷ []; turns = 0 }
+
+abbrev list_names : ListNames
+list_names = record { image = 4 ∷ [] }
 
 abbrev source : FileStep
 source = record { file = Source; name = 1 ∷ [] }
@@ -61,6 +68,27 @@ other_stop stops = stops
 
 mean_not_yet : StopsMean Source (7 ∷ []) (NotYet Source) → ⊥
 mean_not_yet stops = stops
+
+-- an empty file is short, a file of four other bytes has another magic number, and neither is an image
+no_image : (ServesList kinds.Image [] → ⊥) × (ServesList kinds.Image (7 ∷ 7 ∷ 7 ∷ 7 ∷ []) → ⊥) × (ServesList Source [] → ⊥)
+no_image = (λ serves. cc, λ serves. cc, λ serves. serves)
+
+image_stops : StopsList kinds.Image [] (Image (errors.Short 0)) × StopsList kinds.Image (7 ∷ 7 ∷ 7 ∷ 7 ∷ []) (Image errors.Magic)
+image_stops = (refl, refl)
+
+other_fault : (StopsList kinds.Image (7 ∷ 7 ∷ 7 ∷ 7 ∷ []) (Image (errors.Short 4)) → ⊥) × (StopsList kinds.Image [] (Image errors.OutOfMemory) → ⊥)
+    × (StopsList Source [] (Image (errors.Short 0)) → ⊥)
+other_fault = (λ stops. cc, λ stops. stops, λ stops. stops)
+
+list_own : IsOwn (asks.Listing list_names) Done × IsOwn (asks.Listing list_names) WriteFault × (IsOwn (asks.Listing list_names) (Mean mean.Ended) → ⊥) × (IsOwn (asks.Mean mean_names) Done → ⊥)
+list_own = (tt, tt, λ own. own, λ own. own)
+
+-- a folder without files has no listing; before a refusal nothing goes out
+no_listing : ListCommand (Some nothing) list_names Done (Some []) (Some []) → ⊥
+no_listing listed = let same : None ≡ Some listed.listing.text = listed.listing.has_text in cc
+
+list_is_silent : ListCommand None list_names (Image errors.Magic) (Some (1 ∷ [])) (Some (1 ∷ [])) × IfList (Some (asks.Listing list_names)) (λ names. names.image ≡ 4 ∷ [])
+list_is_silent = (refl, refl)
 
 own : IsOwn (asks.Run run_names) (Run Ended) × IsOwn (asks.Run run_names) (Run ByteLost) × IsOwn (asks.Mean mean_names) (Mean mean.Turns) × IsOwn (asks.Mean mean_names) WriteFault
 own = (tt, tt, tt, tt)
@@ -145,8 +173,8 @@ untold told = told
 
 -- ---- kinds of answers
 
-refusals : IsRefusal (NoFile Source) × IsRefusal (TooLong Input) × IsRefusal (NotYet Script)
-refusals = (tt, tt, tt)
+refusals : IsRefusal (NoFile Source) × IsRefusal (TooLong Input) × IsRefusal (NotYet Script) × IsRefusal (Image errors.Magic) × (IsRefusal Done → ⊥)
+refusals = (tt, tt, tt, tt, λ is. is)
 
 no_refusals : IsRefusal Usage ⊎ IsRefusal ReadFault ⊎ IsRefusal OutOfMemory ⊎ IsRefusal (Run Ended) ⊎ IsRefusal WriteFault → ⊥
 no_refusals (inl is) = is

@@ -1,13 +1,11 @@
+mod BuildLemmas
 mod CauseLemmas
-mod CodeLemmas
 mod CommandLemmas
 mod ContractExamples
 mod Examples
-mod LengthLemmas
-mod LiteralLemmas
-mod MachineLemmas
-mod MeaningLemmas
+mod ListLemmas
 mod ReadingLemmas
+mod RunLemmas
 mod SourceLemmas
 mod SyntaxLemmas
 mod ToldExamples

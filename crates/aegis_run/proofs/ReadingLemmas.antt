@@ -7,7 +7,7 @@ use Rattle.aegis_words.specs.CommandTable.{Command, step_after}
 use Rattle.aegis_words.specs.FileReading.{HasText, Passes, listed, steps_read}
 use Rattle.aegis_words.specs.FileSteps.{FileStep, askings_for}
 use Rattle.aegis_run.specs.declared.ends.TopEnd.{TopEnd}
-use Rattle.aegis_run.specs.declared.ends.TopEnd.TheVariants.{Run, Mean, Usage, TooLong, Token, Syntax, Typing, NotYet, NoFile, ReadFault, WriteFault, OutOfMemory}
+use Rattle.aegis_run.specs.declared.ends.TopEnd.TheVariants.{Run, Mean, Done, Usage, TooLong, Token, Syntax, Typing, Plan, Image, NotYet, NoFile, ReadFault, WriteFault, OutOfMemory}
 use Rattle.aegis_run.specs.Answers.{IsFileFault}
 use Rattle.aegis_run.specs.Causes.{Serves, CauseAt, CauseAtFile, IsAnswered}
 use Rattle.aegis_run.specs.FilesRead.{HasRead, IsStopped, OpenCause, Writes}
@@ -60,12 +60,15 @@ silent_at files command step before now (Run end) cause writes = cause
 silent_at files command step before now (Mean end) cause writes = cause
 silent_at files command step before now WriteFault cause writes = cause
 silent_at files command step before now Usage cause writes = writes
+silent_at files command step before now Done cause writes = cause
 silent_at files command step before now (TooLong file) cause writes = writes
 silent_at files command step before now (NoFile file) cause writes = writes
 silent_at files command step before now (Token error) cause writes = writes
 silent_at files command step before now (Syntax error) cause writes = writes
 silent_at files command step before now (Typing error) cause writes = writes
 silent_at files command step before now (NotYet file) cause writes = writes
+silent_at files command step before now (Plan error) cause writes = writes
+silent_at files command step before now (Image error) cause writes = writes
 silent_at files command step before now ReadFault cause writes = writes
 silent_at files command step before now OutOfMemory cause writes = writes
 
@@ -98,10 +101,13 @@ open_cause files later command step before now end same cause =
     go ReadFault cause = cause
     go OutOfMemory cause = cause
     go Usage cause = absurd cause
+    go Done cause = absurd cause
     go (Token error) cause = absurd cause
     go (Syntax error) cause = absurd cause
     go (Typing error) cause = absurd cause
     go (NotYet named) cause = absurd cause
+    go (Plan error) cause = absurd cause
+    go (Image error) cause = absurd cause
     go WriteFault cause = absurd cause
     go (Run end) cause = absurd cause
     go (Mean end) cause = absurd cause

@@ -18,7 +18,7 @@ use Rattle.c_types.specs.declared.error.TypeError.{TypeError}
 use Rattle.c_types.specs.declared.error.TypeError.TheVariants as type
 use Rattle.c_types.specs.Checked.{IsTyped, IsRefusedByTypes}
 use Rattle.aegis_run.specs.declared.ends.TopEnd.{TopEnd}
-use Rattle.aegis_run.specs.declared.ends.TopEnd.TheVariants.{Run, Mean, Usage, TooLong, Token as TokenEnd, Syntax, Typing, NotYet, NoFile, ReadFault, WriteFault, OutOfMemory}
+use Rattle.aegis_run.specs.declared.ends.TopEnd.TheVariants.{Run, Mean, Done, Usage, TooLong, Token as TokenEnd, Syntax, Typing, Plan, Image, NotYet, NoFile, ReadFault, WriteFault, OutOfMemory}
 use Rattle.aegis_run.specs.SourceTexts.{SourceFault, HasTypeFault}
 use Rattle.aegis_run.proofs.TypingLemmas.{typed_refused, one_type_error}
 
@@ -103,8 +103,11 @@ accepted_fault text p (Typing error) is typed fault =
 accepted_fault text p (Run end) is typed fault = fault
 accepted_fault text p (Mean end) is typed fault = fault
 accepted_fault text p Usage is typed fault = fault
+accepted_fault text p Done is typed fault = fault
 accepted_fault text p (TooLong file) is typed fault = fault
 accepted_fault text p (NotYet file) is typed fault = fault
+accepted_fault text p (Plan error) is typed fault = fault
+accepted_fault text p (Image error) is typed fault = fault
 accepted_fault text p (NoFile file) is typed fault = fault
 accepted_fault text p ReadFault is typed fault = fault
 accepted_fault text p WriteFault is typed fault = fault
@@ -145,8 +148,11 @@ one_fault text (Typing a) (Typing b) first second =
 one_fault text (Run end) b first second = absurd first
 one_fault text (Mean end) b first second = absurd first
 one_fault text Usage b first second = absurd first
+one_fault text Done b first second = absurd first
 one_fault text (TooLong file) b first second = absurd first
 one_fault text (NotYet file) b first second = absurd first
+one_fault text (Plan error) b first second = absurd first
+one_fault text (Image error) b first second = absurd first
 one_fault text (NoFile file) b first second = absurd first
 one_fault text ReadFault b first second = absurd first
 one_fault text WriteFault b first second = absurd first
@@ -154,8 +160,11 @@ one_fault text OutOfMemory b first second = absurd first
 one_fault text a (Run end) first second = absurd second
 one_fault text a (Mean end) first second = absurd second
 one_fault text a Usage first second = absurd second
+one_fault text a Done first second = absurd second
 one_fault text a (TooLong file) first second = absurd second
 one_fault text a (NotYet file) first second = absurd second
+one_fault text a (Plan error) first second = absurd second
+one_fault text a (Image error) first second = absurd second
 one_fault text a (NoFile file) first second = absurd second
 one_fault text a ReadFault first second = absurd second
 one_fault text a WriteFault first second = absurd second

@@ -1,5 +1,5 @@
 -- Worked answers of a source that releases `Hi`: what a run and a `mean` of it may send, and what they may not.
-use Rattle.std.proofs.Common.{◌≡◌, ℕ, zero, suc, ◌+◌, ◌*◌, cond, List, [], ◌∷◌, length, Option, None, Some, refl, sym, ◌∙◌, ap, subst, arith}
+use Rattle.std.proofs.Common.{◌≡◌, ℕ, zero, suc, cond, List, [], ◌∷◌, Option, None, Some, refl, sym, ◌∙◌, ap, subst, arith}
 use Rattle.std.specs.Prelude.{codes, take}
 use Rattle.std.specs.Fmt.{digits}
 use Rattle.std.specs.Str.{bytes_eq}
@@ -17,10 +17,12 @@ use Rattle.c_token.specs.TextTokens.{tokens_of}
 use Rattle.c_token.proofs.PlainTexts.{reads_back}
 use Rattle.aegis_run.specs.declared.ends.End.TheVariants.{Ended, WriteFault as ByteLost}
 use Rattle.aegis_run.specs.declared.ends.TopEnd.TheVariants.{Run, Mean, WriteFault}
+use Rattle.compiled_run.specs.RunMeaning.{meaning_with, turns_with}
+use Rattle.aegis_run.specs.declared.ends.End.{End}
+use Rattle.aegis_run.specs.declared.ends.End.TheVariants as run
 use Rattle.aegis_run.specs.MeanCommand.{MeanCommand}
-use Rattle.aegis_run.specs.RunCommand.{RunCommand, turns_with}
+use Rattle.aegis_run.specs.RunCommand.{RunCommand, RunStarted}
 use Rattle.aegis_run.specs.SourceMeaning.{SourceMeans}
-use Rattle.aegis_run.proofs.MeaningLemmas.{literals_mean}
 use Rattle.aegis_run.proofs.SourceLemmas.{one_text}
 
 -- ---- the source, and the folder that holds it
@@ -79,9 +81,6 @@ hi_means turns = record {
   meaning_is = refl;
 }
 
-hi_says : (turns : ℕ) → ((hi_meaning turns).end ≡ outcome.Ended) × ((hi_meaning turns).traffic.bytes ≡ hi_bytes)
-hi_says turns = literals_mean (hi_program (codes "main")) hi_bytes [] turns refl
-
 one_some : (a b : List ℕ) → Some a ≡ Some b → b ≡ a
 one_some a b same = cc
 
@@ -95,96 +94,109 @@ one_meaning turns m means =
     sym means.meaning_is ∙ ap (λ p. mean_alone (plain_program p) means.input turns) program
     ∙ ap (λ bytes. mean_alone (plain_program (hi_program (codes "main"))) bytes turns) input
 
-one_end : (turns : ℕ) (m : Meaning) → SourceMeans (Some hi_files) (1 ∷ []) (3 ∷ []) turns m → m.end ≡ outcome.Ended
-one_end turns m means = ap (λ meaning. meaning.end) (one_meaning turns m means) ∙ (hi_says turns).0
+-- what follows where it releases these bytes and ends
+module _ (hi_says : (turns : ℕ) → ((hi_meaning turns).end ≡ outcome.Ended) × ((hi_meaning turns).traffic.bytes ≡ hi_bytes)) where
+  one_end : (turns : ℕ) (m : Meaning) → SourceMeans (Some hi_files) (1 ∷ []) (3 ∷ []) turns m → m.end ≡ outcome.Ended
+  one_end turns m means = ap (λ meaning. meaning.end) (one_meaning turns m means) ∙ (hi_says turns).0
 
-one_output : (turns : ℕ) (m : Meaning) → SourceMeans (Some hi_files) (1 ∷ []) (3 ∷ []) turns m → m.traffic.bytes ≡ hi_bytes
-one_output turns m means = ap (λ meaning. meaning.traffic.bytes) (one_meaning turns m means) ∙ (hi_says turns).1
+  one_output : (turns : ℕ) (m : Meaning) → SourceMeans (Some hi_files) (1 ∷ []) (3 ∷ []) turns m → m.traffic.bytes ≡ hi_bytes
+  one_output turns m means = ap (λ meaning. meaning.traffic.bytes) (one_meaning turns m means) ∙ (hi_says turns).1
 
--- a folder without a source means nothing
-no_source : (turns : ℕ) (m : Meaning) → SourceMeans (Some nothing) (1 ∷ []) (3 ∷ []) turns m → ⊥
-no_source turns m means = let same : None ≡ Some means.source = means.has_source in cc
+  -- a folder without a source means nothing
+  no_source : (turns : ℕ) (m : Meaning) → SourceMeans (Some nothing) (1 ∷ []) (3 ∷ []) turns m → ⊥
+  no_source turns m means = let same : None ≡ Some means.source = means.has_source in cc
 
--- ---- a run
+  -- ---- a run
 
-run_ended : RunCommand (Some hi_files) run_names (Run Ended) 5 (Some (4 ∷ [])) (Some (4 ∷ hi_bytes))
-run_ended = record {
-  meaning = hi_meaning (turns_with 0);
-  means = hi_means (turns_with 0);
-  ended = (hi_says (turns_with 0)).0;
-  bytes = ap (λ bytes. Some (4 ∷ bytes)) (sym (hi_says (turns_with 0)).1);
-  count = ap (λ bytes. 2 * length bytes + 1) (sym (hi_says (turns_with 0)).1);
-}
+  -- what the source of a run that was started means
+  started : (files : Files) (end : End) (retired : ℕ) (old new : Option (List ℕ)) (told : RunStarted (Some files) run_names end retired old new)
+      → SourceMeans (Some files) (1 ∷ []) (3 ∷ []) (turns_with 0) (meaning_with told.program told.input 0)
+  started files end retired old new told = record {
+    source = told.source;
+    input = told.input;
+    has_source = told.has_source;
+    has_input = told.has_input;
+    program = told.program;
+    is_program = told.is_program;
+    meaning_is = refl;
+  }
 
--- not all bytes went out
-short_run : RunCommand (Some hi_files) run_names (Run Ended) 5 (Some []) (Some first_byte) → ⊥
-short_run told =
-    let sent : Some first_byte ≡ Some hi_bytes = told.bytes ∙ ap Some (one_output (turns_with 0) told.meaning told.means) in cc
+  -- not all bytes went out
+  short_run : RunCommand (Some hi_files) run_names (Run Ended) 5 (Some []) (Some first_byte) → ⊥
+  short_run told =
+      let means = started hi_files Ended 5 (Some []) (Some first_byte) told in
+      let sent : Some first_byte ≡ Some hi_bytes = told.sends.bytes ∙ ap Some (one_output (turns_with 0) (meaning_with told.program told.input 0) means) in cc
 
--- the line counts another number of instructions
-other_count : RunCommand (Some hi_files) run_names (Run Ended) 4 (Some []) (Some hi_bytes) → ⊥
-other_count told =
-    let count : 4 ≡ 5 = told.count ∙ ap (λ bytes. 2 * length bytes + 1) (one_output (turns_with 0) told.meaning told.means) in
-    absurd (omega (arith, count))
+  -- the meaning ends otherwise
+  other_run_end : RunCommand (Some hi_files) run_names (Run (run.Index 3)) 5 (Some []) (Some hi_bytes) → ⊥
+  other_run_end told =
+      let means = started hi_files (run.Index 3) 5 (Some []) (Some hi_bytes) told in
+      let same : outcome.Index 3 ≡ outcome.Ended = sym told.sends.ended ∙ one_end (turns_with 0) (meaning_with told.program told.input 0) means in cc
 
-run_cut_short : RunCommand (Some hi_files) run_names (Run ByteLost) 0 (Some []) (Some first_byte)
-run_cut_short = record {
-  meaning = hi_meaning (turns_with 0);
-  means = hi_means (turns_with 0);
-  bytes = (1, ap (λ bytes. Some (take 1 bytes)) (sym (hi_says (turns_with 0)).1));
-}
+  -- more instructions than the fuel
+  past_fuel : RunCommand (Some hi_files) run_names (Run Ended) 5 (Some []) (Some hi_bytes) → ⊥
+  past_fuel told = absurd (omega (arith, told.sends.within))
 
-abbrev first_of : Option (List ℕ) → ℕ
-first_of None = 0
-first_of (Some []) = 0
-first_of (Some (byte ∷ bytes)) = byte
+  -- the answer tells another number of instructions than the line, or than the fuel
+  other_count : RunCommand (Some hi_files) run_names (Run (run.FuelOut 1)) 0 (Some []) (Some []) → ⊥
+  other_count told = absurd (omega (arith, told.sends.0))
 
--- the second byte is no front
-no_front : (count : ℕ) (bytes : List ℕ) → bytes ≡ hi_bytes → Some second_byte ≡ Some (take count bytes) → ⊥
-no_front count bytes same sent = go count (sent ∙ ap (λ bytes. Some (take count bytes)) same)
-  where
-    go : (count : ℕ) → Some second_byte ≡ Some (take count hi_bytes) → ⊥
-    go zero sent = let first : ◌≡◌ {A = ℕ} 105 0 = ap first_of sent in absurd (omega (arith, first))
-    go (suc count) sent = let first : ◌≡◌ {A = ℕ} 105 72 = ap first_of sent in absurd (omega (arith, first))
+  not_used_up : RunCommand (Some hi_files) run_names (Run (run.FuelOut 1)) 1 (Some []) (Some []) → ⊥
+  not_used_up told = absurd (omega (arith, told.sends.1.all))
 
-run_not_front : RunCommand (Some hi_files) run_names (Run ByteLost) 0 (Some []) (Some second_byte) → ⊥
-run_not_front told = no_front told.bytes.0 told.meaning.traffic.bytes (one_output (turns_with 0) told.meaning told.means) told.bytes.1
+  abbrev first_of : Option (List ℕ) → ℕ
+  first_of None = 0
+  first_of (Some []) = 0
+  first_of (Some (byte ∷ bytes)) = byte
 
--- no run starts without a source
-no_start : RunCommand (Some nothing) run_names (Run ByteLost) 0 (Some []) (Some []) → ⊥
-no_start told = no_source (turns_with 0) told.meaning told.means
+  -- the second byte is no front
+  no_front : (count : ℕ) (bytes : List ℕ) → bytes ≡ hi_bytes → Some second_byte ≡ Some (take count bytes) → ⊥
+  no_front count bytes same sent = go count (sent ∙ ap (λ bytes. Some (take count bytes)) same)
+    where
+      go : (count : ℕ) → Some second_byte ≡ Some (take count hi_bytes) → ⊥
+      go zero sent = let first : ◌≡◌ {A = ℕ} 105 0 = ap first_of sent in absurd (omega (arith, first))
+      go (suc count) sent = let first : ◌≡◌ {A = ℕ} 105 72 = ap first_of sent in absurd (omega (arith, first))
 
-no_end : RunCommand (Some nothing) run_names (Run Ended) 1 (Some []) (Some []) → ⊥
-no_end told = no_source (turns_with 0) told.meaning told.means
+  run_not_front : RunCommand (Some hi_files) run_names (Run ByteLost) 0 (Some []) (Some second_byte) → ⊥
+  run_not_front told =
+      let means = started hi_files ByteLost 0 (Some []) (Some second_byte) told in
+      no_front told.sends.bytes.0 (meaning_with told.program told.input 0).traffic.bytes (one_output (turns_with 0) (meaning_with told.program told.input 0) means) told.sends.bytes.1
 
--- ---- a `mean`
+  -- no run starts without a source
+  no_start : RunCommand (Some nothing) run_names (Run ByteLost) 0 (Some []) (Some []) → ⊥
+  no_start told = no_source (turns_with 0) (meaning_with told.program told.input 0) (started nothing ByteLost 0 (Some []) (Some []) told)
 
-mean_told : MeanCommand (Some hi_files) mean_names (Mean mean.Ended) (Some (4 ∷ [])) (Some (4 ∷ hi_bytes))
-mean_told = record {
-  meaning = hi_meaning 0;
-  means = hi_means 0;
-  ended = sym (hi_says 0).0;
-  bytes = ap (λ bytes. Some (4 ∷ bytes)) (sym (hi_says 0).1);
-}
+  no_end : RunCommand (Some nothing) run_names (Run Ended) 1 (Some []) (Some []) → ⊥
+  no_end told = no_source (turns_with 0) (meaning_with told.program told.input 0) (started nothing Ended 1 (Some []) (Some []) told)
 
--- another end
-other_end : MeanCommand (Some hi_files) mean_names (Mean mean.Turns) (Some []) (Some hi_bytes) → ⊥
-other_end told = let same : outcome.Turns ≡ outcome.Ended = told.ended ∙ one_end 0 told.meaning told.means in cc
+  -- ---- a `mean`
 
--- what was there before is gone
-lost_before : MeanCommand (Some hi_files) mean_names (Mean mean.Ended) (Some (4 ∷ [])) (Some hi_bytes) → ⊥
-lost_before told =
-    let sent : Some hi_bytes ≡ Some (4 ∷ hi_bytes) = told.bytes ∙ ap (λ bytes. Some (4 ∷ bytes)) (one_output 0 told.meaning told.means) in cc
+  mean_told : MeanCommand (Some hi_files) mean_names (Mean mean.Ended) (Some (4 ∷ [])) (Some (4 ∷ hi_bytes))
+  mean_told = record {
+    meaning = hi_meaning 0;
+    means = hi_means 0;
+    ended = sym (hi_says 0).0;
+    bytes = ap (λ bytes. Some (4 ∷ bytes)) (sym (hi_says 0).1);
+  }
 
-mean_cut_short : MeanCommand (Some hi_files) mean_names WriteFault (Some []) (Some [])
-mean_cut_short = record {
-  meaning = hi_meaning 0;
-  means = hi_means 0;
-  bytes = (0, refl);
-}
+  -- another end
+  other_end : MeanCommand (Some hi_files) mean_names (Mean mean.Turns) (Some []) (Some hi_bytes) → ⊥
+  other_end told = let same : outcome.Turns ≡ outcome.Ended = told.ended ∙ one_end 0 told.meaning told.means in cc
 
-mean_not_front : MeanCommand (Some hi_files) mean_names WriteFault (Some []) (Some second_byte) → ⊥
-mean_not_front told = no_front told.bytes.0 told.meaning.traffic.bytes (one_output 0 told.meaning told.means) told.bytes.1
+  -- what was there before is gone
+  lost_before : MeanCommand (Some hi_files) mean_names (Mean mean.Ended) (Some (4 ∷ [])) (Some hi_bytes) → ⊥
+  lost_before told =
+      let sent : Some hi_bytes ≡ Some (4 ∷ hi_bytes) = told.bytes ∙ ap (λ bytes. Some (4 ∷ bytes)) (one_output 0 told.meaning told.means) in cc
 
-no_mean : MeanCommand (Some nothing) mean_names (Mean mean.Ended) (Some []) (Some []) → ⊥
-no_mean told = no_source 0 told.meaning told.means
+  mean_cut_short : MeanCommand (Some hi_files) mean_names WriteFault (Some []) (Some [])
+  mean_cut_short = record {
+    meaning = hi_meaning 0;
+    means = hi_means 0;
+    bytes = (0, refl);
+  }
+
+  mean_not_front : MeanCommand (Some hi_files) mean_names WriteFault (Some []) (Some second_byte) → ⊥
+  mean_not_front told = no_front told.bytes.0 told.meaning.traffic.bytes (one_output 0 told.meaning told.means) told.bytes.1
+
+  no_mean : MeanCommand (Some nothing) mean_names (Mean mean.Ended) (Some []) (Some []) → ⊥
+  no_mean told = no_source 0 told.meaning told.means

@@ -3,7 +3,7 @@ use Rattle.std.specs.Prelude.{◌≡◌, ℕ}
 use Rattle.aegis_edge.specs.Faults.{Rose}
 use Rattle.aegis_run.specs.declared.ends.End.TheVariants as run
 use Rattle.aegis_run.specs.declared.ends.TopEnd.{TopEnd}
-use Rattle.aegis_run.specs.declared.ends.TopEnd.TheVariants.{Run, TooLong, Token, Syntax, Typing, NotYet, NoFile, ReadFault, WriteFault, OutOfMemory}
+use Rattle.aegis_run.specs.declared.ends.TopEnd.TheVariants.{Run, TooLong, Token, Syntax, Typing, Plan, Image, NotYet, NoFile, ReadFault, WriteFault, OutOfMemory}
 
 -- a file refuses the command, by its length or by its text
 abbrev pub IsRefusal : TopEnd → Type 0
@@ -12,6 +12,8 @@ IsRefusal (TooLong file) = Unit {0}
 IsRefusal (Token error) = Unit {0}
 IsRefusal (Syntax error) = Unit {0}
 IsRefusal (Typing error) = Unit {0}
+IsRefusal (Plan error) = Unit {0}
+IsRefusal (Image error) = Unit {0}
 IsRefusal (NotYet file) = Unit {0}
 IsRefusal end = ⊥
 

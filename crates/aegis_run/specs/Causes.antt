@@ -7,11 +7,15 @@ use Rattle.aegis_words.specs.CommandTable.{Command, step_after}
 use Rattle.aegis_words.specs.CommandTable as asks
 use Rattle.aegis_words.specs.FileReading.{HasText, ArePassed, steps_asked}
 use Rattle.aegis_words.specs.FileSteps.{FileStep, askings_for, limit_for}
+use Rattle.aegis_words.specs.BuildWordRow.{BuildNames}
+use Rattle.aegis_words.specs.ListWordRow.{ListNames}
 use Rattle.aegis_words.specs.MeanWordRow.{MeanNames}
 use Rattle.aegis_words.specs.RunWordRow.{RunNames}
 use Rattle.aegis_run.specs.declared.ends.TopEnd.{TopEnd}
-use Rattle.aegis_run.specs.declared.ends.TopEnd.TheVariants.{Run, Mean, Usage, TooLong, Token, Syntax, Typing, NotYet, NoFile, ReadFault, WriteFault, OutOfMemory}
+use Rattle.aegis_run.specs.declared.ends.TopEnd.TheVariants.{Run, Mean, Done, Usage, TooLong, Token, Syntax, Typing, Plan, Image, NotYet, NoFile, ReadFault, WriteFault, OutOfMemory}
 use Rattle.aegis_run.specs.Answers.{IsRefusal, IsFailure}
+use Rattle.aegis_run.specs.BuildCommand.{ServesBuild, StopsBuild, IsOwnOfBuild}
+use Rattle.aegis_run.specs.ListCommand.{ServesList, StopsList, IsOwnOfList}
 use Rattle.aegis_run.specs.MeanCommand.{ServesMean, StopsMean, IsOwnOfMean}
 use Rattle.aegis_run.specs.RunCommand.{ServesRun, StopsRun, IsOwnOfRun}
 
@@ -21,16 +25,22 @@ use Rattle.aegis_run.specs.RunCommand.{ServesRun, StopsRun, IsOwnOfRun}
 abbrev pub Serves : Command → File → List ℕ → Type 0
 Serves (asks.Run names) = ServesRun
 Serves (asks.Mean names) = ServesMean
+Serves (asks.Build names) = ServesBuild
+Serves (asks.Listing names) = ServesList
 
 -- why the text of a file stops a command, and which answer says so
 abbrev pub Stops : Command → File → List ℕ → TopEnd → Type 0
 Stops (asks.Run names) = StopsRun
 Stops (asks.Mean names) = StopsMean
+Stops (asks.Build names) = StopsBuild
+Stops (asks.Listing names) = StopsList
 
 -- the answers that a command gives once its files were read
 abbrev pub IsOwn : Command → TopEnd → Type 0
 IsOwn (asks.Run names) = IsOwnOfRun
 IsOwn (asks.Mean names) = IsOwnOfMean
+IsOwn (asks.Build names) = IsOwnOfBuild
+IsOwn (asks.Listing names) = IsOwnOfList
 
 -- a fact of the names of a run, where the words are one
 abbrev pub IfRun : Option Command → (RunNames → Type 0) → Type 0
@@ -41,6 +51,16 @@ IfRun row P = Unit {0}
 abbrev pub IfMean : Option Command → (MeanNames → Type 0) → Type 0
 IfMean (Some (asks.Mean names)) P = P names
 IfMean row P = Unit {0}
+
+-- a fact of the name of a `build`, where the words are one
+abbrev pub IfBuild : Option Command → (BuildNames → Type 0) → Type 0
+IfBuild (Some (asks.Build names)) P = P names
+IfBuild row P = Unit {0}
+
+-- a fact of the name of a `list`, where the words are one
+abbrev pub IfList : Option Command → (ListNames → Type 0) → Type 0
+IfList (Some (asks.Listing names)) P = P names
+IfList row P = Unit {0}
 
 -- ---- causes
 
@@ -59,9 +79,12 @@ CauseAtFile files command step before now (Token error) = IsStoppedByText files 
 CauseAtFile files command step before now (Syntax error) = IsStoppedByText files command step (Syntax error)
 CauseAtFile files command step before now (Typing error) = IsStoppedByText files command step (Typing error)
 CauseAtFile files command step before now (NotYet file) = IsStoppedByText files command step (NotYet file)
+CauseAtFile files command step before now (Plan error) = IsStoppedByText files command step (Plan error)
+CauseAtFile files command step before now (Image error) = IsStoppedByText files command step (Image error)
 CauseAtFile files command step before now ReadFault = Rose before now
 CauseAtFile files command step before now OutOfMemory = Unit {0}
 CauseAtFile files command step before now Usage = ⊥
+CauseAtFile files command step before now Done = ⊥
 CauseAtFile files command step before now (Run end) = ⊥
 CauseAtFile files command step before now (Mean end) = ⊥
 CauseAtFile files command step before now WriteFault = ⊥

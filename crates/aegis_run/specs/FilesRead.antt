@@ -8,6 +8,8 @@ use Rattle.aegis_words.specs.CommandTable.{Command, step_after}
 use Rattle.aegis_words.specs.CommandTable as asks
 use Rattle.aegis_words.specs.FileReading.{ArePassed, steps_read}
 use Rattle.aegis_words.specs.FileSteps.{FileStep, askings_for, limit_for}
+use Rattle.aegis_words.specs.BuildWordRow.{BuildNames}
+use Rattle.aegis_words.specs.ListWordRow.{ListNames}
 use Rattle.aegis_words.specs.MeanWordRow.{MeanNames}
 use Rattle.aegis_words.specs.RunWordRow.{RunNames}
 use Rattle.c_evaluator.specs.MachineStates.{end_of}
@@ -15,16 +17,31 @@ use Rattle.c_grammar.specs.declared.item.Program.{Program}
 use Rattle.c_reader.specs.declared.error.SyntaxError.{SyntaxError}
 use Rattle.c_reader.specs.declared.error.SyntaxError.TheVariants as syntax
 use Rattle.c_semantics.specs.Meaning.{Meaning}
+use Rattle.image_file.specs.declared.error.ImageError.{ImageError}
+use Rattle.image_file.specs.declared.error.ImageError.TheVariants as errors
+use Rattle.image_file.specs.declared.image.Image.{Image}
+use Rattle.image_file.specs.ImageFaults.{first_fault}
+use Rattle.image_file.specs.ImageTable.{bytes_of, HoldsWords}
+use Rattle.orbis_word.specs.Printing.{IsListing}
 use Rattle.c_token.specs.declared.kinds.TokenError.{TokenError}
 use Rattle.c_token.specs.declared.kinds.TokenError.TheVariants as token
 use Rattle.c_types.specs.declared.error.TypeError.{TypeError}
 use Rattle.c_types.specs.declared.error.TypeError.TheVariants as type
 use Rattle.aegis_run.specs.declared.ends.TopEnd.{TopEnd}
-use Rattle.aegis_run.specs.declared.ends.TopEnd.TheVariants.{Run, Mean, Token, Syntax, Typing, NotYet, NoFile, TooLong, ReadFault, WriteFault, OutOfMemory}
+use Rattle.aegis_run.specs.declared.ends.TopEnd.TheVariants as answer
+use Rattle.aegis_run.specs.declared.ends.TopEnd.TheVariants.{Done, Run, Mean, Token, Syntax, Typing, NotYet, NoFile, TooLong, ReadFault, WriteFault, OutOfMemory}
 use Rattle.aegis_run.specs.Answers.{IsFileFault}
 use Rattle.aegis_run.specs.Causes.{Serves, IsAnswered}
-use Rattle.aegis_run.specs.Literals.{literals_of}
-use Rattle.aegis_run.specs.SourceTexts.{IsSource, SourceFault}
+use Rattle.compiler.specs.CompilerTheorem.{IsCompiled}
+use Rattle.compiler.specs.MemoryUse.{source_fault}
+use Rattle.codegen.specs.declared.EmitError.{EmitError}
+use Rattle.codegen.specs.declared.EmitError.TheVariants as emit
+use Rattle.flat_machine.specs.declared.ran.ImageEnd.{ImageEnd}
+use Rattle.flat_machine.specs.declared.ran.ImageEnd.TheVariants as ends
+use Rattle.aegis_run.specs.declared.ends.End.{End}
+use Rattle.aegis_run.specs.declared.ends.End.TheVariants as run
+use Rattle.aegis_run.specs.RunCommand.{RunSends}
+use Rattle.aegis_run.specs.SourceTexts.{IsSource, SourceFault, BuildFault}
 
 -- a command has read these texts, asked for their files alone, and met no fault
 pub record HasRead (files : Option Files) (command : Command) (before now : ℕ) (old new : Option (List Asking)) (texts : List (List ℕ)) : Type 0 where
@@ -37,6 +54,7 @@ abbrev pub Writes : TopEnd → Type 0
 Writes (Run end) = Unit {0}
 Writes (Mean end) = Unit {0}
 Writes WriteFault = Unit {0}
+Writes Done = Unit {0}
 Writes end = ⊥
 
 -- a command answers at a file
@@ -45,19 +63,42 @@ pub record IsStopped (files : Option Files) (command : Command) (before now : �
   pub steady : (IsFileFault end → ⊥) → now ≡ before
   pub silent : Writes end → ⊥
 
--- a run has read its files: its source releases these literals
-pub record RunReady (files : Option Files) (names : RunNames) (before now : ℕ) (old new : Option (List Asking)) (literals input : List ℕ) : Type 0 where
+-- the text is a source that keeps all rules and passes no limit, and the image is compiled from it
+pub record IsBuiltFrom (text : List ℕ) (image : Image) : Type 0 where
+  pub program : Program
+  pub is_source : IsSource text program
+  pub fits : source_fault program ≡ None
+  pub compiled : IsCompiled program image
+
+-- a run has read its files: the image is compiled from its source
+pub record RunReady (files : Option Files) (names : RunNames) (before now : ℕ) (old new : Option (List Asking)) (image : Image) (input : List ℕ) : Type 0 where
   pub source : List ℕ
   pub read : HasRead files (asks.Run names) before now old new (input ∷ [] ∷ source ∷ [])
-  pub program : Program
-  pub is_source : IsSource source program
-  pub found : literals_of program ≡ Some literals
+  pub built : IsBuiltFrom source image
+
+-- a `build` has read its source, from which the image is compiled
+pub record BuildReady (files : Option Files) (names : BuildNames) (before now : ℕ) (old new : Option (List Asking)) (image : Image) : Type 0 where
+  pub source : List ℕ
+  pub read : HasRead files (asks.Build names) before now old new (source ∷ [])
+  pub built : IsBuiltFrom source image
 
 -- a `mean` has read its files: its source is this program
 pub record MeanReady (files : Option Files) (names : MeanNames) (before now : ℕ) (old new : Option (List Asking)) (program : Program) (input : List ℕ) : Type 0 where
   pub source : List ℕ
   pub read : HasRead files (asks.Mean names) before now old new (input ∷ source ∷ [])
   pub is_source : IsSource source program
+
+-- the text is the file of this image
+pub record IsImageText (text : List ℕ) (image : Image) : Type 0 where
+  pub words : HoldsWords image
+  pub is_file : text ≡ bytes_of image
+  pub faultless : first_fault text ≡ None
+
+-- a `list` has read its file, that of this image
+pub record ListReady (files : Option Files) (names : ListNames) (before now : ℕ) (old new : Option (List Asking)) (image : Image) : Type 0 where
+  pub text : List ℕ
+  pub read : HasRead files (asks.Listing names) before now old new (text ∷ [])
+  pub is_text : IsImageText text image
 
 -- why a file is not read, and which answer says so
 abbrev pub OpenCause : Option Files → FileStep → ℕ → ℕ → TopEnd → Type 0
@@ -72,13 +113,25 @@ abbrev pub AcceptCause : List ℕ → TopEnd → Type 0
 AcceptCause text OutOfMemory = Unit {0}
 AcceptCause text end = SourceFault text end
 
--- why a program is not run, and which answer says so
-abbrev pub NotRunCause : Program → TopEnd → Type 0
-NotRunCause program (NotYet Source) = literals_of program ≡ None
-NotRunCause program OutOfMemory = Unit {0}
-NotRunCause program end = ⊥
+-- why a text is not the file of an image, and which answer says so
+abbrev pub ImageCause : List ℕ → TopEnd → Type 0
+ImageCause text OutOfMemory = Unit {0}
+ImageCause text (answer.Image errors.OutOfMemory) = ⊥
+ImageCause text (answer.Image error) = first_fault text ≡ Some error
+ImageCause text end = ⊥
 
--- the answers that errors of a source are handed on as
+-- why a text has no image, and which answer says so
+abbrev pub BuildCause : List ℕ → TopEnd → Type 0
+BuildCause text OutOfMemory = Unit {0}
+BuildCause text end = BuildFault text end
+
+-- why a program has no image, and which answer says so
+abbrev pub CompileCause : Program → TopEnd → Type 0
+CompileCause program OutOfMemory = Unit {0}
+CompileCause program (answer.Plan error) = source_fault program ≡ Some error
+CompileCause program end = ⊥
+
+-- the answers that errors of a source or of an image are handed on as
 abbrev pub end_of_token : TokenError → TopEnd
 end_of_token token.OutOfMemory = OutOfMemory
 end_of_token error = Token error
@@ -90,6 +143,42 @@ end_of_syntax error = Syntax error
 abbrev pub end_of_type : TypeError → TopEnd
 end_of_type type.OutOfMemory = OutOfMemory
 end_of_type error = Typing error
+
+abbrev pub end_of_image : ImageError → TopEnd
+end_of_image errors.OutOfMemory = OutOfMemory
+end_of_image error = answer.Image error
+
+abbrev pub end_of_emit : EmitError → TopEnd
+end_of_emit (emit.Plan error) = answer.Plan error
+end_of_emit emit.OutOfMemory = OutOfMemory
+
+-- the end that the run of an image is told as
+abbrev pub end_of_run : ImageEnd → ℕ → End
+end_of_run ends.Ended retired = run.Ended
+end_of_run (ends.Index at) retired = run.Index at
+end_of_run (ends.Divide at) retired = run.Divide at
+end_of_run ends.FuelOut retired = run.FuelOut retired
+end_of_run ends.WriteFault retired = run.WriteFault
+
+-- what an answer after a compiled source has sent, and after how many instructions
+abbrev pub SendsRun : Program → Image → List ℕ → ℕ → TopEnd → ℕ → Option (List ℕ) → Option (List ℕ) → Type 0
+SendsRun program image input fuel (Run end) retired old new = RunSends program image input fuel end retired old new
+SendsRun program image input fuel OutOfMemory retired old new = new ≡ old
+SendsRun program image input fuel end retired old new = ⊥
+
+-- what an answer after bytes that are made whole put into a sink: the bytes, or a front of them
+abbrev pub SendsBytes : TopEnd → Option (List ℕ) → Option (List ℕ) → List ℕ → Type 0
+SendsBytes Done old new bytes = Appends old new bytes
+SendsBytes WriteFault old new bytes = AppendsFront old new bytes
+SendsBytes OutOfMemory old new bytes = new ≡ old
+SendsBytes end old new bytes = ⊥
+
+-- what an answer after an image put into a sink: the listing of its code, or a front of one
+abbrev pub SendsListing : TopEnd → Option (List ℕ) → Option (List ℕ) → List ℕ → Type 0
+SendsListing Done old new code = (lines : List ℕ) × IsListing 0 code lines × Appends old new lines
+SendsListing WriteFault old new code = (lines : List ℕ) × IsListing 0 code lines × AppendsFront old new lines
+SendsListing OutOfMemory old new code = new ≡ old
+SendsListing end old new code = ⊥
 
 -- what an answer after a meaning put into a sink
 abbrev pub SendsMeaning : TopEnd → Option (List ℕ) → Option (List ℕ) → Meaning → Type 0

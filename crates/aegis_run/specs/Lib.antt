@@ -1,8 +1,8 @@
 pub mod Answers
+pub mod BuildCommand
 pub mod Causes
-pub mod Code
 pub mod FilesRead
-pub mod Literals
+pub mod ListCommand
 pub mod MeanCommand
 pub mod Report
 pub mod RunCommand

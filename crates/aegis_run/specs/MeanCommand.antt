@@ -7,24 +7,26 @@ use Rattle.c_evaluator.specs.MachineStates.{end_of}
 use Rattle.c_grammar.specs.declared.item.Program.{Program}
 use Rattle.c_semantics.specs.Meaning.{Meaning}
 use Rattle.aegis_words.specs.declared.file.File.{File}
-use Rattle.aegis_words.specs.declared.file.File.TheVariants.{Source, Script, Input}
+use Rattle.aegis_words.specs.declared.file.File.TheVariants.{Source, Script, Input, Image}
 use Rattle.aegis_words.specs.MeanWordRow.{MeanNames}
 use Rattle.aegis_run.specs.declared.ends.TopEnd.{TopEnd}
 use Rattle.aegis_run.specs.declared.ends.TopEnd.TheVariants.{Mean, WriteFault}
 use Rattle.aegis_run.specs.SourceMeaning.{SourceMeans}
 use Rattle.aegis_run.specs.SourceTexts.{IsSource, SourceFault}
 
--- the text of a file lets a `mean` go on; it reads no script
+-- the text of a file lets a `mean` go on; it reads no script and no image
 abbrev pub ServesMean : File → List ℕ → Type 0
 ServesMean Source text = (program : Program) × IsSource text program
 ServesMean Script text = ⊥
 ServesMean Input text = Unit {0}
+ServesMean Image text = ⊥
 
 -- why the text of a file stops a `mean`, and which answer says so
 abbrev pub StopsMean : File → List ℕ → TopEnd → Type 0
 StopsMean Source text end = SourceFault text end
 StopsMean Script text end = ⊥
 StopsMean Input text end = ⊥
+StopsMean Image text end = ⊥
 
 -- what the source of a `mean` means on its input
 abbrev pub MeanMeans : Option Files → MeanNames → Meaning → Type 0

@@ -1,64 +1,58 @@
 -- Promise: the command `run`: what lets it go on and what stops it, which answers are its own, and what goes out.
-use Rattle.std.specs.Prelude.{◌≡◌, ◌≢◌, ℕ, ◌+◌, ◌*◌, List, [], length, Option, None, Some}
-use Rattle.aegis_num.specs.declared.limits.TheConstants.{MAX_NESTING}
-use Rattle.aegis_edge.specs.Folder.{Files}
-use Rattle.aegis_edge.specs.Sink.{Appends, AppendsFront}
-use Rattle.c_grammar.specs.declared.item.Program.{Program}
-use Rattle.c_semantics.specs.Meaning.{Meaning}
-use Rattle.c_semantics.specs.States as outcome
+use Rattle.std.specs.Prelude.{◌≡◌, ◌≢◌, ℕ, List, [], Option}
+use Rattle.aegis_edge.specs.Folder.{Files, HoldsWhole}
+use Rattle.c_grammar.specs.declared.Program.{Program}
+use Rattle.c_grammar.specs.TokenPrograms.{HasProgram}
 use Rattle.aegis_words.specs.declared.file.File.{File}
-use Rattle.aegis_words.specs.declared.file.File.TheVariants.{Source, Script, Input}
+use Rattle.aegis_words.specs.declared.file.File.TheVariants as file
 use Rattle.aegis_words.specs.RunWordRow.{RunNames}
-use Rattle.aegis_run.specs.declared.ends.End.TheVariants.{Ended, WriteFault}
+use Rattle.image_file.specs.declared.Image.{Image}
+use Rattle.compiler.specs.CompilerTheorem.{IsCompiled}
+use Rattle.flat_machine.specs.declared.ran.ImageEnd.TheVariants as ends
+use Rattle.compiled_run.specs.RunMeaning.{RunsAsMeant}
+use Rattle.aegis_run.specs.declared.ends.End.{End}
+use Rattle.aegis_run.specs.declared.ends.End.TheVariants as run
 use Rattle.aegis_run.specs.declared.ends.TopEnd.{TopEnd}
 use Rattle.aegis_run.specs.declared.ends.TopEnd.TheVariants.{Run, NotYet}
-use Rattle.aegis_run.specs.Literals.{literals_of}
-use Rattle.aegis_run.specs.SourceMeaning.{SourceMeans}
-use Rattle.aegis_run.specs.SourceTexts.{IsSource, SourceFault}
+use Rattle.aegis_run.specs.SourceTexts.{IsBuildable, BuildFault}
 
--- a program that releases literals, one after another, and does nothing else
-abbrev pub ReleasesLiterals : Program → Type 0
-ReleasesLiterals program = (literals : List ℕ) × (literals_of program ≡ Some literals)
-
--- the text of a file lets a run go on
+-- the text of a file lets a run go on; it reads no image
 abbrev pub ServesRun : File → List ℕ → Type 0
-ServesRun Source text = (program : Program) × IsSource text program × ReleasesLiterals program
-ServesRun Script text = text ≡ []
-ServesRun Input text = Unit {0}
+ServesRun file.Source text = IsBuildable text
+ServesRun file.Script text = text ≡ []
+ServesRun file.Input text = Unit {0}
+ServesRun file.Image text = ⊥
 
 -- why the text of a file stops a run, and which answer says so
 abbrev pub StopsRun : File → List ℕ → TopEnd → Type 0
-StopsRun Source text (NotYet Source) = (program : Program) × IsSource text program × (literals_of program ≡ None)
-StopsRun Source text end = SourceFault text end
-StopsRun Script text (NotYet Script) = text ≢ []
-StopsRun file text end = ⊥
+StopsRun file.Source text end = BuildFault text end
+StopsRun file.Script text (NotYet file.Script) = text ≢ []
+StopsRun kind text end = ⊥
 
--- how many loop turns a run with this fuel can come to: each level of nesting makes at most one in each event
-abbrev pub turns_with : ℕ → ℕ
-turns_with fuel = MAX_NESTING * (fuel + 1)
+-- what a run of the image of a source on an input, with this fuel, has sent before it ends so, after so many instructions
+abbrev pub RunSends : Program → Image → List ℕ → ℕ → End → ℕ → Option (List ℕ) → Option (List ℕ) → Type 0
+RunSends program image input fuel run.Ended retired old new = RunsAsMeant program image input fuel ends.Ended retired old new
+RunSends program image input fuel (run.Index at) retired old new = RunsAsMeant program image input fuel (ends.Index at) retired old new
+RunSends program image input fuel (run.Divide at) retired old new = RunsAsMeant program image input fuel (ends.Divide at) retired old new
+RunSends program image input fuel (run.FuelOut count) retired old new =
+    (count ≡ retired) × RunsAsMeant program image input fuel ends.FuelOut retired old new
+RunSends program image input fuel run.WriteFault retired old new = RunsAsMeant program image input fuel ends.WriteFault retired old new
 
--- what the source of a run means on its input
-abbrev pub RunMeans : Option Files → RunNames → Meaning → Type 0
-RunMeans files names meaning = SourceMeans files names.source names.input (turns_with names.fuel) meaning
-
--- a run to its end: its meaning ends in order, all bytes of it went out, after two instructions for each and the exit
-pub record RunEnded (files : Option Files) (names : RunNames) (retired : ℕ) (old new : Option (List ℕ)) : Type 0 where
-  pub meaning : Meaning
-  pub means : RunMeans files names meaning
-  pub ended : meaning.end ≡ outcome.Ended
-  pub bytes : Appends old new meaning.traffic.bytes
-  pub count : retired ≡ 2 * length meaning.traffic.bytes + 1
-
--- a run of which a byte was not taken: a front of the bytes of its meaning went out
-pub record RunCutShort (files : Option Files) (names : RunNames) (old new : Option (List ℕ)) : Type 0 where
-  pub meaning : Meaning
-  pub means : RunMeans files names meaning
-  pub bytes : AppendsFront old new meaning.traffic.bytes
+-- A run was started: its files are a source and an input, and the image is compiled from the source. It has sent what the source means.
+pub record RunStarted (files : Option Files) (names : RunNames) (end : End) (retired : ℕ) (old new : Option (List ℕ)) : Type 0 where
+  pub source : List ℕ
+  pub input : List ℕ
+  pub has_source : HoldsWhole files names.source source
+  pub has_input : HoldsWhole files names.input input
+  pub program : Program
+  pub is_program : HasProgram source program
+  pub image : Image
+  pub compiled : IsCompiled program image
+  pub sends : RunSends program image input names.fuel end retired old new
 
 -- what goes out before an answer of a run, and after how many instructions the run ends
 abbrev pub RunCommand : Option Files → RunNames → TopEnd → ℕ → Option (List ℕ) → Option (List ℕ) → Type 0
-RunCommand files names (Run Ended) retired old new = RunEnded files names retired old new
-RunCommand files names (Run WriteFault) retired old new = RunCutShort files names old new
+RunCommand files names (Run end) retired old new = RunStarted files names end retired old new
 RunCommand files names end retired old new = new ≡ old
 
 -- the answers that a run gives once its files were read

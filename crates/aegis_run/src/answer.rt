@@ -2,11 +2,15 @@
 ghost use Rattle.std.specs.Prelude.{◌≡◌, None};
 ghost use Rattle.aegis_words.specs.CommandTable.{command_in};
 ghost use Rattle.aegis_run.specs.Answers.{IsFileFault, IsWriteFault, RisesWhere};
-ghost use Rattle.aegis_run.specs.Causes.{Cause, IfMean, IfRun};
+ghost use Rattle.aegis_run.specs.Causes.{Cause, IfBuild, IfList, IfMean, IfRun};
+ghost use Rattle.aegis_run.specs.BuildCommand.{BuildCommand};
+ghost use Rattle.aegis_run.specs.ListCommand.{ListCommand};
 ghost use Rattle.aegis_run.specs.MeanCommand.{MeanCommand};
 ghost use Rattle.aegis_run.specs.RunCommand.{RunCommand};
 
+use crate::build::answer_build;
 use crate::ends::TopEnd;
+use crate::list::answer_list;
 use crate::mean::answer_mean;
 use crate::run::answer_run;
 use aegis_edge::{Folder, Sink};
@@ -38,6 +42,10 @@ pub fn answer_words<F: Folder, K: Sink>(
         (K.written out.old) (K.written out.new)) }
     ensures mean { IfMean (command_in words.now) (λ names.
         MeanCommand (F.files folder.old) names result.end (K.written out.old) (K.written out.new)) }
+    ensures build { IfBuild (command_in words.now) (λ names.
+        BuildCommand (F.files folder.old) names result.end (K.written out.old) (K.written out.new)) }
+    ensures list { IfList (command_in words.now) (λ names.
+        ListCommand (F.files folder.old) names result.end (K.written out.old) (K.written out.new)) }
     ensures silent { command_in words.now ≡ None → K.written out.new ≡ K.written out.old }
     ensures out_count { RisesWhere (IsWriteFault result.end) (K.faults out.old) (K.faults out.new) }
     ensures out_still_unlimited { K.limit out.new ≡ None }
@@ -46,6 +54,14 @@ pub fn answer_words<F: Folder, K: Sink>(
         Some(Command::Run(names)) => answer_run(alloc, &names, folder, out),
         Some(Command::Mean(names)) => Outcome {
             end: answer_mean(alloc, &names, folder, out),
+            retired: 0,
+        },
+        Some(Command::Build(names)) => Outcome {
+            end: answer_build(alloc, &names, folder, out),
+            retired: 0,
+        },
+        Some(Command::Listing(names)) => Outcome {
+            end: answer_list(alloc, &names, folder, out),
             retired: 0,
         },
         None => Outcome {

@@ -1,10 +1,11 @@
 //! The files that a command reads: their texts, and the program of a source.
-ghost use Rattle.std.specs.Prelude.{◌≡◌, ◌≤◌, ◌*◌, ℕ, List, Some, length, IfOk, IfErr, OnOk};
+ghost use Rattle.std.specs.Prelude.{◌≡◌, ◌≤◌, None, length, IfOk, IfErr, OnOk};
 ghost use Rattle.aegis_edge.specs.Folder.{AsksOne};
 ghost use Rattle.aegis_words.specs.FileReading.{HasText};
 ghost use Rattle.aegis_run.specs.Answers.{IsFileFault};
-ghost use Rattle.aegis_run.specs.Literals.{literals_of};
-ghost use Rattle.aegis_run.specs.FilesRead.{AcceptCause, OpenCause};
+ghost use Rattle.aegis_run.specs.FilesRead.{AcceptCause, BuildCause, CompileCause, IsBuiltFrom, OpenCause};
+ghost use Rattle.compiler.specs.CompilerTheorem.{IsCompiled};
+ghost use Rattle.compiler.specs.MemoryUse.{source_fault};
 ghost use Rattle.aegis_run.specs.SourceTexts.{IsSource};
 
 use crate::ends::TopEnd;
@@ -14,6 +15,8 @@ use aegis_words::{File, limit};
 use c_reader::read_program;
 use c_token::tokens;
 use c_types::{Checked, check};
+use compiler::compile;
+use image_file::Image;
 use std::alloc::Global;
 
 /// The whole text of a file, which holds at most its limit.
@@ -48,14 +51,34 @@ pub fn open<F: Folder>(
 pub fn accept(alloc: Global, text: &[u8]) -> Result<Checked, TopEnd>
     requires { length text.now ≤ MAX_SOURCE_BYTES }
     ensures source { IfOk result (λ checked. IsSource text.now checked) }
-    ensures few { IfOk result (λ checked. (literals : List ℕ)
-        → literals_of checked ≡ Some literals → 5 * length literals ≤ MAX_SOURCE_BYTES) }
     ensures refused { IfErr result (λ end. AcceptCause text.now end) }
 {
     let tokens = tokens(alloc, text)?;
     let program = read_program(alloc, tokens.as_slice())?;
     match check(alloc, program) {
         Ok(checked) => Ok(checked),
+        Err(error) => Err(TopEnd::from(error)),
+    }
+}
+
+/// The image of a text, if it is a program that keeps the typing rules and passes no limit.
+pub fn build(alloc: Global, text: &[u8]) -> Result<Image, TopEnd>
+    requires { length text.now ≤ MAX_SOURCE_BYTES }
+    ensures built { IfOk result (IsBuiltFrom text.now) }
+    ensures refused { IfErr result (BuildCause text.now) }
+{
+    let program = accept(alloc, text)?;
+    image_of(alloc, &program)
+}
+
+/// The image of a program, if it passes no limit.
+fn image_of(alloc: Global, program: &Checked) -> Result<Image, TopEnd>
+    ensures compiled { IfOk result (IsCompiled program.now) }
+    ensures fits { OnOk result (source_fault program.now ≡ None) }
+    ensures refused { IfErr result (CompileCause program.now) }
+{
+    match compile(alloc, program) {
+        Ok(image) => Ok(image),
         Err(error) => Err(TopEnd::from(error)),
     }
 }

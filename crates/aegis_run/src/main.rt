@@ -2,11 +2,10 @@
 #![tactic(auto)]
 
 mod answer;
-mod compiler;
+mod build;
 mod ends;
 mod files;
-mod literals;
-mod machine;
+mod list;
 mod mean;
 mod report;
 mod run;

@@ -1,7 +1,7 @@
 //! The line of an answer on the notes.
-ghost use Rattle.std.specs.Prelude.{◌≡◌, ◌+◌, ◌≤◌, ◌++◌, length, decimal};
+ghost use Rattle.std.specs.Prelude.{◌≡◌, ◌+◌, ◌≤◌, ◌++◌, length, codes, decimal};
 ghost use Rattle.std.specs.Option.{option_map};
-ghost use Rattle.aegis_run.specs.Report.{line_of, meaning_line, file_word, place_line, syntax_line, token_line, type_line};
+ghost use Rattle.aegis_run.specs.Report.{line_of, meaning_line, file_word, image_line, place_line, plan_line, run_line, syntax_line, token_line, type_line};
 
 use crate::ends::{End, TopEnd};
 use aegis_words::File;
@@ -10,12 +10,14 @@ use c_meaning::MeanEnd;
 use c_reader::SyntaxError;
 use c_token::TokenError;
 use c_types::TypeError;
+use image_file::ImageError;
 use itoa::Buffer;
+use region_plan::PlanError;
 
 /// The words of the commands.
 const USAGE_OF_RUN: &str = "usage: run SOURCE SCRIPT INPUT FUEL KEY NONCE";
 
-const USAGE_OF_MEAN: &str = ", mean SOURCE INPUT TURNS";
+const USAGE_OF_THE_OTHERS: &str = ", mean SOURCE INPUT TURNS, build SOURCE, list IMAGE";
 
 /// A line with its line feed.
 pub type Line = ArrayString<256>;
@@ -25,20 +27,48 @@ pub fn report_line(end: &TopEnd, retired: u64) -> Option<Line>
     ensures { option_map (λ line. line.bytes) result ≡ line_of end.now retired }
 {
     Some(match end {
-        TopEnd::Run(End::Ended) => line_with("ended retired ", retired, " events 0\n"),
-        TopEnd::Run(End::WriteFault) => line_from("write fault", "", "\n"),
+        TopEnd::Done => return None,
+        TopEnd::Run(end) => report_run(*end, retired),
         TopEnd::Mean(end) => report_meaning(*end),
-        TopEnd::Usage => line_from(USAGE_OF_RUN, USAGE_OF_MEAN, "\n"),
+        TopEnd::Usage => line_from(USAGE_OF_RUN, USAGE_OF_THE_OTHERS, "\n"),
         TopEnd::TooLong(file) => line_from("too long: ", file_name(*file), "\n"),
         TopEnd::Token(error) => report_token(*error),
         TopEnd::Syntax(error) => report_syntax(*error),
         TopEnd::Typing(error) => report_typing(*error),
+        TopEnd::Plan(error) => report_plan(*error),
+        TopEnd::Image(error) => report_image(*error),
         TopEnd::NotYet(file) => line_from("not yet ", file_name(*file), "\n"),
         TopEnd::NoFile(file) => line_from("no file: ", file_name(*file), "\n"),
         TopEnd::ReadFault => line_from("read fault", "", "\n"),
         TopEnd::WriteFault => line_from("write fault", "", "\n"),
         TopEnd::OutOfMemory => line_from("out of memory", "", "\n"),
     })
+}
+
+/// The line of a run that ends so after `retired` instructions.
+fn report_run(end: End, retired: u64) -> Line
+    ensures { result.bytes ≡ run_line end retired }
+{
+    match end {
+        End::Ended => line_with("ended retired ", retired, " events 0\n"),
+        End::Index { at } => line_of_trap("index token ", at, retired),
+        End::Divide { at } => line_of_trap("divide token ", at, retired),
+        End::FuelOut { .. } => line_with("fuel retired ", retired, " events 0\n"),
+        End::WriteFault => line_from("write fault", "", "\n"),
+    }
+}
+
+/// The line of a run that ends at a token.
+fn line_of_trap(front: &str, at: u32, retired: u64) -> Line
+    requires { length front.now ≤ 20 }
+    ensures { result.bytes ≡ front.now ++ decimal at ++ codes " retired " ++ decimal retired ++ codes " events 0\n" }
+{
+    let mut place = Buffer::new();
+    let mut count = Buffer::new();
+    let mut line = line_from(front, place.format(at), " retired ");
+    line.push_str(count.format(retired));
+    line.push_str(" events 0\n");
+    line
 }
 
 /// The line of a meaning that ends so.
@@ -96,6 +126,32 @@ fn report_typing(error: TypeError) -> Line
     }
 }
 
+/// The line of a program that does not fit.
+fn report_plan(error: PlanError) -> Line
+    ensures { result.bytes ≡ plan_line error }
+{
+    match error {
+        PlanError::TreeFull { blocks } => line_with("tree full ", blocks, "\n"),
+        PlanError::LogFull { blocks } => line_with("log full ", blocks, "\n"),
+        PlanError::OpenFull { bytes } => line_with("open full ", bytes, "\n"),
+        PlanError::OutOfMemory => line_from("out of memory", "", "\n"),
+    }
+}
+
+/// The line of a file that is no image.
+fn report_image(error: ImageError) -> Line
+    ensures { result.bytes ≡ image_line error }
+{
+    match error {
+        ImageError::Short { at } => line_with("image: short ", at, "\n"),
+        ImageError::Magic => line_from("image: magic", "", "\n"),
+        ImageError::Version { found } => line_with("image: version ", found as u64, "\n"),
+        ImageError::Field { at } => line_with("image: field ", at, "\n"),
+        ImageError::Trailing { at } => line_with("image: trailing ", at, "\n"),
+        ImageError::OutOfMemory => line_from("out of memory", "", "\n"),
+    }
+}
+
 /// What a file is called.
 fn file_name(file: File) -> &'static str
     ensures name { result.now ≡ file_word file }
@@ -105,6 +161,7 @@ fn file_name(file: File) -> &'static str
         File::Source => "source",
         File::Script => "script",
         File::Input => "input",
+        File::Image => "image",
     }
 }
 

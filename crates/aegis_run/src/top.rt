@@ -3,7 +3,9 @@ ghost use Rattle.std.specs.Prelude.{◌≡◌, ◌↔◌, ℕ, None, false, IfSo
 ghost use Rattle.std.specs.Option.{option_map};
 ghost use Rattle.aegis_words.specs.CommandTable.{command_in};
 ghost use Rattle.aegis_run.specs.Answers.{IsFileFault, IsWriteFault, RisesWhere};
-ghost use Rattle.aegis_run.specs.Causes.{AreTold, Cause, Completes, IfMean, IfRun, RefusesWhere};
+ghost use Rattle.aegis_run.specs.Causes.{AreTold, Cause, Completes, IfBuild, IfList, IfMean, IfRun, RefusesWhere};
+ghost use Rattle.aegis_run.specs.BuildCommand.{BuildCommand};
+ghost use Rattle.aegis_run.specs.ListCommand.{ListCommand};
 ghost use Rattle.aegis_run.specs.MeanCommand.{MeanCommand};
 ghost use Rattle.aegis_run.specs.Report.{Notes, line_of, status_of as status_of_answer};
 ghost use Rattle.aegis_run.specs.RunCommand.{RunCommand};
@@ -17,7 +19,7 @@ use std::alloc::Global;
 /// Does what the words after the program's name say. `run SOURCE SCRIPT INPUT FUEL KEY NONCE` reads the three
 /// files from the folder, compiles the source and runs it; each byte goes to `out` as it is released.
 /// `mean SOURCE INPUT TURNS` reads the two files and evaluates the source, with at most so many loop turns; its
-/// bytes go to `out` once it has ended. One line on the end goes to `notes`.
+/// bytes go to `out` once it has ended. `build SOURCE` writes the image of the source to `out`. `list IMAGE` reads the file and writes the listing of its code to `out`. One line on the end goes to `notes`.
 pub fn aegis<F: Folder, K: Sink, N: Sink>(
     alloc: Global,
     words: &[String],
@@ -46,6 +48,10 @@ pub fn aegis<F: Folder, K: Sink, N: Sink>(
         × Notes (line_of result.end retired) result.noted (N.written notes.old) (N.written notes.new)) }
     ensures mean { IfMean (command_in words.now) (λ names.
         MeanCommand (F.files folder.old) names result.end (K.written out.old) (K.written out.new)) }
+    ensures build { IfBuild (command_in words.now) (λ names.
+        BuildCommand (F.files folder.old) names result.end (K.written out.old) (K.written out.new)) }
+    ensures list { IfList (command_in words.now) (λ names.
+        ListCommand (F.files folder.old) names result.end (K.written out.old) (K.written out.new)) }
     ensures silent { command_in words.now ≡ None → K.written out.new ≡ K.written out.old }
 
     // What notes took: the line of the answer, or a front of it where `noted` is false.

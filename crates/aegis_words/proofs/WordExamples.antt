@@ -2,12 +2,14 @@
 use Rattle.std.proofs.Common.{◌≡◌, ℕ, List, [], ◌∷◌, None, Some, false, refl}
 use Rattle.std.specs.Prelude.{codes}
 use Rattle.hex.specs.Hex.{decode_pairs}
-use Rattle.aegis_words.specs.declared.file.File.TheVariants.{Source, Script, Input}
+use Rattle.aegis_words.specs.declared.file.File.TheVariants.{Source, Script, Input, Image}
 use Rattle.aegis_words.specs.FileSteps.{limit_for, askings_for}
 use Rattle.aegis_words.specs.NumberWords.{is_number, bound_in, hex_bytes}
 use Rattle.aegis_words.specs.RunWordRow.{RunNames, run_row, run_steps}
 use Rattle.aegis_words.specs.MeanWordRow.{MeanNames, mean_row, mean_steps}
-use Rattle.aegis_words.specs.CommandTable.{Run, Mean, rows, first_fitting, step_after}
+use Rattle.aegis_words.specs.BuildWordRow.{BuildNames, build_row, build_steps}
+use Rattle.aegis_words.specs.ListWordRow.{ListNames, list_row, list_steps}
+use Rattle.aegis_words.specs.CommandTable.{Run, Mean, Build, Listing, rows, first_fitting, step_after}
 
 -- ---- words
 
@@ -106,10 +108,37 @@ mean_is_no_run = refl
 other_word : first_fitting rows (codes "means" ∷ codes "hi.c" ∷ codes "i" ∷ codes "0" ∷ []) ≡ None
 other_word = refl
 
+abbrev build_names : BuildNames
+build_names = record { source = codes "hi.c" }
+
+build_ordinary : first_fitting rows (codes "build" ∷ codes "hi.c" ∷ []) ≡ Some (Build build_names)
+build_ordinary = refl
+
+build_of_two : build_row (codes "build" ∷ codes "hi.c" ∷ codes "more" ∷ []) ≡ None
+build_of_two = refl
+
+build_without_source : first_fitting rows (codes "build" ∷ []) ≡ None
+build_without_source = refl
+
+abbrev list_names : ListNames
+list_names = record { image = codes "hi.image" }
+
+list_ordinary : first_fitting rows (codes "list" ∷ codes "hi.image" ∷ []) ≡ Some (Listing list_names)
+list_ordinary = refl
+
+list_without_image : first_fitting rows (codes "list" ∷ []) ≡ None
+list_without_image = refl
+
+list_of_two : list_row (codes "list" ∷ codes "hi.image" ∷ codes "more" ∷ []) ≡ None
+list_of_two = refl
+
+list_misspelled : first_fitting rows (codes "lists" ∷ codes "hi.image" ∷ []) ≡ None
+list_misspelled = refl
+
 -- ---- files
 
-limits : (limit_for Source ≡ 262144) × (limit_for Script ≡ 1048576) × (limit_for Input ≡ 65536)
-limits = (refl, refl, refl)
+limits : (limit_for Source ≡ 262144) × (limit_for Script ≡ 1048576) × (limit_for Input ≡ 65536) × (limit_for Image ≡ 1048576)
+limits = (refl, refl, refl, refl)
 
 run_files : run_steps (names 1 key)
     ≡ record { file = Source; name = codes "hi.c" } ∷ record { file = Script; name = codes "s" } ∷ record { file = Input; name = codes "i" } ∷ []
@@ -129,6 +158,21 @@ mean_after_source = refl
 
 mean_after_all : step_after (Mean (mean_names_with 1)) ([] ∷ [] ∷ []) ≡ None
 mean_after_all = refl
+
+build_files : build_steps build_names ≡ record { file = Source; name = codes "hi.c" } ∷ []
+build_files = refl
+
+build_after_all : step_after (Build build_names) ([] ∷ []) ≡ None
+build_after_all = refl
+
+list_files : list_steps list_names ≡ record { file = Image; name = codes "hi.image" } ∷ []
+list_files = refl
+
+list_first : step_after (Listing list_names) [] ≡ Some (record { file = Image; name = codes "hi.image" })
+list_first = refl
+
+list_after_all : step_after (Listing list_names) ([] ∷ []) ≡ None
+list_after_all = refl
 
 askings_at_three : askings_for 3 (record { file = Script; name = 7 ∷ [] } ∷ []) ≡ record { name = 7 ∷ []; faults = 3 } ∷ []
 askings_at_three = refl

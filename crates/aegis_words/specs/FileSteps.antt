@@ -1,9 +1,9 @@
 -- Promise: which files a command reads one after another, and how long each may be.
 use Rattle.std.specs.Prelude.{ℕ, List, [], ◌∷◌, map, Option, None, Some}
-use Rattle.aegis_num.specs.declared.limits.TheConstants.{MAX_SOURCE_BYTES, MAX_SCRIPT_BYTES, MAX_INPUT_BYTES}
+use Rattle.aegis_num.specs.declared.limits.TheConstants.{MAX_SOURCE_BYTES, MAX_SCRIPT_BYTES, MAX_INPUT_BYTES, MAX_IMAGE_BYTES}
 use Rattle.aegis_edge.specs.Folder.{Asking}
 use Rattle.aegis_words.specs.declared.file.File.{File}
-use Rattle.aegis_words.specs.declared.file.File.TheVariants.{Source, Script, Input}
+use Rattle.aegis_words.specs.declared.file.File.TheVariants.{Source, Script, Input, Image}
 
 -- a file that a command asks for, by the name that its words give
 pub record FileStep : Type 0 where
@@ -15,6 +15,7 @@ abbrev pub limit_for : File → ℕ
 limit_for Source = MAX_SOURCE_BYTES
 limit_for Script = MAX_SCRIPT_BYTES
 limit_for Input = MAX_INPUT_BYTES
+limit_for Image = MAX_IMAGE_BYTES
 
 -- how a folder is asked for the files of steps, one after another, while its count of faults stands still
 abbrev pub askings_for : ℕ → List FileStep → List Asking

@@ -1,10 +1,14 @@
 -- Device: what the code keeps of the words.
 use Rattle.aegis_words.specs.declared.run.RunWords.{RunWords}
 use Rattle.aegis_words.specs.declared.mean.MeanWords.{MeanWords}
+use Rattle.aegis_words.specs.declared.build.BuildWords.{BuildWords}
+use Rattle.aegis_words.specs.declared.list.ListWords.{ListWords}
 use Rattle.aegis_words.specs.declared.table.Command.{Command as CommandWords}
 use Rattle.aegis_words.specs.declared.table.Command.TheVariants as words
 use Rattle.aegis_words.specs.RunWordRow.{RunNames}
 use Rattle.aegis_words.specs.MeanWordRow.{MeanNames}
+use Rattle.aegis_words.specs.BuildWordRow.{BuildNames}
+use Rattle.aegis_words.specs.ListWordRow.{ListNames}
 use Rattle.aegis_words.specs.CommandTable.{Command}
 use Rattle.aegis_words.specs.CommandTable as asks
 
@@ -23,7 +27,17 @@ names_of words = record {
 abbrev pub mean_names_of : MeanWords → MeanNames
 mean_names_of words = record { source = words.source.now; input = words.input.now; turns = words.turns }
 
+-- the name among the words of a `build`
+abbrev pub build_names_of : BuildWords → BuildNames
+build_names_of words = record { source = words.source.now }
+
+-- the name among the words of a `list`
+abbrev pub list_names_of : ListWords → ListNames
+list_names_of words = record { image = words.image.now }
+
 -- what the code keeps of the words, as the command that they are
 abbrev pub command_of : CommandWords → Command
 command_of (words.Run names) = asks.Run (names_of names)
 command_of (words.Mean names) = asks.Mean (mean_names_of names)
+command_of (words.Build names) = asks.Build (build_names_of names)
+command_of (words.Listing names) = asks.Listing (list_names_of names)

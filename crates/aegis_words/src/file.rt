@@ -2,7 +2,7 @@
 ghost use Rattle.std.specs.Prelude.{◌≡◌};
 ghost use Rattle.aegis_words.specs.FileSteps.{limit_for};
 
-use aegis_num::limits::{MAX_INPUT_BYTES, MAX_SCRIPT_BYTES, MAX_SOURCE_BYTES};
+use aegis_num::limits::{MAX_IMAGE_BYTES, MAX_INPUT_BYTES, MAX_SCRIPT_BYTES, MAX_SOURCE_BYTES};
 
 /// A file that the words on the command line name.
 #[derive(Clone, Copy, Debug, PartialEq, Eq)]
@@ -13,6 +13,8 @@ pub enum File {
     Script,
     /// The input of the secure program.
     Input,
+    /// The image of a program.
+    Image,
 }
 
 /// The most bytes that a file may hold.
@@ -23,5 +25,6 @@ pub fn limit(file: File) -> u64
         File::Source => MAX_SOURCE_BYTES,
         File::Script => MAX_SCRIPT_BYTES,
         File::Input => MAX_INPUT_BYTES,
+        File::Image => MAX_IMAGE_BYTES,
     }
 }

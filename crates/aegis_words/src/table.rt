@@ -4,6 +4,8 @@ ghost use Rattle.std.specs.Option.{option_map};
 ghost use Rattle.aegis_words.specs.CommandTable.{command_in};
 ghost use Rattle.aegis_words.specs.KeptWords.{command_of};
 
+use crate::build::{BuildWords, build_words};
+use crate::list::{ListWords, list_words};
 use crate::mean::{MeanWords, mean_words};
 use crate::run::{RunWords, run_words};
 
@@ -14,6 +16,10 @@ pub enum Command<'a> {
     Run(RunWords<'a>),
     /// To say what a source means.
     Mean(MeanWords<'a>),
+    /// To compile a source.
+    Build(BuildWords<'a>),
+    /// To list the code of an image.
+    Listing(ListWords<'a>),
 }
 
 /// Reads the words after the program's name as a row of the table of commands.
@@ -23,8 +29,14 @@ pub fn read_command(words: &[String]) -> Option<Command<'_>>
     if let Some(names) = run_words(words) {
         return Some(Command::Run(names));
     }
-    match mean_words(words) {
-        Some(names) => Some(Command::Mean(names)),
+    if let Some(names) = mean_words(words) {
+        return Some(Command::Mean(names));
+    }
+    if let Some(names) = build_words(words) {
+        return Some(Command::Build(names));
+    }
+    match list_words(words) {
+        Some(names) => Some(Command::Listing(names)),
         None => None,
     }
 }

@@ -1,21 +1,25 @@
 use Rattle.aegis_words.specs.KeptWords.{names_of}
-use Rattle.aegis_run.specs.Literals.{released}
-use Rattle.aegis_run.proofs.CommandLemmas.{run_answered, run_sent, run_silent, unwritten}
+use Rattle.aegis_run.proofs.CommandLemmas.{unwritten}
+use Rattle.aegis_run.proofs.RunLemmas.{run_answered, run_sent, run_silent}
 use Rattle.aegis_run.proofs.run.answer_run.Goals as goal
+
+pub run_prepared-requires-clause-compiled : goal.run_prepared-requires-clause-compiled
+run_prepared-requires-clause-compiled g c = (c.in-Ok.ensures.ready.built.program, c.in-Ok.ensures.ready.built.compiled)
 
 pub returns-in-Ok-clause-cause : goal.returns-in-Ok-clause-cause
 returns-in-Ok-clause-cause g c =
-    run_answered _ (names_of c.args.names.now) _ _ _ _ c.in-Ok.prepared.literals.items c.in-Ok.prepared.input.items (released c.in-Ok.prepared.literals.items)
-    (g.K.Sink.written c.args.out.now) (g.K.Sink.written c.run_prepared.new.out) c.run_prepared.result.end c.in-Ok.ensures.ready c.run_prepared.ensures.sends
+    run_answered _ (names_of c.args.names.now) _ _ _ _ c.in-Ok.prepared.image c.in-Ok.prepared.input.items c.in-Ok.ensures.ready.built.program c.run_prepared.result.retired
+    (g.K.Sink.written c.args.out.now) (g.K.Sink.written c.run_prepared.new.out) c.run_prepared.result.end c.in-Ok.ensures.ready
+    (c.run_prepared.ensures.sends c.in-Ok.ensures.ready.built.program c.in-Ok.ensures.ready.built.compiled)
 
 pub returns-in-Ok-clause-folder_count : goal.returns-in-Ok-clause-folder_count
 returns-in-Ok-clause-folder_count g c = λ other. c.in-Ok.ensures.ready.read.steady
 
 pub returns-in-Ok-clause-run : goal.returns-in-Ok-clause-run
 returns-in-Ok-clause-run g c =
-    run_sent _ (names_of c.args.names.now) _ _ _ _ c.in-Ok.prepared.literals.items c.in-Ok.prepared.input.items
-    (g.K.Sink.written c.args.out.now) (g.K.Sink.written c.run_prepared.new.out) c.run_prepared.result.end c.run_prepared.result.retired
-    c.in-Ok.ensures.ready c.run_prepared.ensures.sends c.run_prepared.ensures.retired
+    run_sent _ (names_of c.args.names.now) _ _ _ _ c.in-Ok.prepared.image c.in-Ok.prepared.input.items c.run_prepared.result.retired
+    (g.K.Sink.written c.args.out.now) (g.K.Sink.written c.run_prepared.new.out) c.run_prepared.result.end c.in-Ok.ensures.ready
+    (c.run_prepared.ensures.sends c.in-Ok.ensures.ready.built.program c.in-Ok.ensures.ready.built.compiled)
 
 pub returns-in-Err-clause-cause : goal.returns-in-Err-clause-cause
 returns-in-Err-clause-cause g c = c.in-Err.ensures.refused.answered

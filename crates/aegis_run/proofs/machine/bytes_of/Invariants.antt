@@ -1,6 +1,0 @@
-use Rattle.std.proofs.Common.{◌≡◌, take}
-use Rattle.orbis_core.specs.ByteOrder.{bytes_of}
-use Rattle.aegis_run.proofs.machine.bytes_of.Given as goal
-
-abbrev pub invariant-loop-word : goal.invariant-loop-word
-invariant-loop-word l = l.bytes.items ≡ bytes_of (take l.word-index l.words)
