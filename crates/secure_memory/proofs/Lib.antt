@@ -12,4 +12,5 @@ pub mod StoreActs
 pub mod OpenActs
 pub mod FetchLemmas
 pub mod IdealLemmas
+mod AccessExamples
 mod PadExamples
