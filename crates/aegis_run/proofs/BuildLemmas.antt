@@ -1,5 +1,5 @@
 -- What a `build` reads, and what its own answers put into a sink.
-use Rattle.std.proofs.Common.{◌≡◌, inl, inr, ℕ, List, [], ◌∷◌, Option, None, Some, Result, Ok, Err, refl, subst}
+use Rattle.std.proofs.Common.{◌≡◌, inl, inr, ℕ, List, [], ◌∷◌, Option, None, Result, Ok, Err, refl, subst}
 use Rattle.std.specs.Prelude.{IfErr, IfOk}
 use Rattle.aegis_edge.specs.Sink.{AppendsFront}
 use Rattle.aegis_edge.specs.Folder.{Files, Asking, AsksOne}

@@ -1,5 +1,5 @@
 -- The definitions on worked examples.
-use Rattle.std.proofs.Common.{◌≡◌, true, false, None, Some, [], ◌∷◌, ◌++◌, refl, ◌∙◌, ap, arith}
+use Rattle.std.proofs.Common.{◌≡◌, true, false, None, Some, ◌++◌, refl, ◌∙◌, ap, arith}
 use Rattle.std.specs.Prelude.{codes, decimal}
 use Rattle.std.proofs.lemmas.Fmt.{decimal_digit}
 use Rattle.aegis_words.specs.declared.file.File.TheVariants.{Source, Script}

@@ -1,10 +1,10 @@
 -- What stops a run, and what its own answers put into a sink.
-use Rattle.std.proofs.Common.{◌≡◌, ◌≢◌, inl, inr, ℕ, List, [], ◌∷◌, Option, None, Some, refl, sym, subst}
+use Rattle.std.proofs.Common.{◌≡◌, ◌≢◌, inl, inr, ℕ, List, [], ◌∷◌, Option, None, refl, sym, subst}
 use Rattle.aegis_edge.specs.Faults.{Rose}
 use Rattle.aegis_edge.specs.Sink.{IsWithin}
 use Rattle.aegis_edge.specs.Folder.{Files, Asking, AsksOne}
 use Rattle.c_grammar.specs.declared.Program.{Program}
-use Rattle.aegis_words.specs.declared.file.File.TheVariants.{Source, Script, Input}
+use Rattle.aegis_words.specs.declared.file.File.TheVariants.{Script, Input}
 use Rattle.aegis_words.specs.CommandTable as asks
 use Rattle.aegis_words.specs.FileReading.{HasText}
 use Rattle.aegis_words.specs.RunWordRow.{RunNames}

@@ -3,7 +3,6 @@ use Rattle.std.specs.Prelude.{◌≡◌, ℕ, List, [], ◌∷◌, Option, None,
 use Rattle.aegis_edge.specs.Faults.{Rose}
 use Rattle.aegis_edge.specs.Folder.{Files, Asking, Asks, IsMissing, IsTooLong}
 use Rattle.aegis_edge.specs.Sink.{Appends, AppendsFront}
-use Rattle.aegis_words.specs.declared.file.File.TheVariants.{Source}
 use Rattle.aegis_words.specs.CommandTable.{Command, step_after}
 use Rattle.aegis_words.specs.CommandTable as asks
 use Rattle.aegis_words.specs.FileReading.{ArePassed, steps_read}
