@@ -83,3 +83,11 @@ reads-one scheme pinned old middle old_root middle_root old_trace middle_trace n
       reads = append-nil (filter_map block_read (moves.events ++ BlockRead (Tree n) block ∷ [])) ∙ filter_map-push block_read moves.events (BlockRead (Tree n) block)
           ∙ ap (λ (xs : List ℕ). xs ++ n ∷ []) moves.reads_are;
     })
+
+-- ---- a block that has a line
+
+pub moved-still : (scheme : Scheme) (pinned blocks : List ℕ) (old new : LineMap) (root : List ℕ) (trace : List Event) → Stands scheme (state_of old root trace) → new ≡ old
+    → [] ≡ uncached (held_in old) blocks → Moved scheme pinned (state_of old root trace) (state_of new root trace) (uncached (held_in old) blocks)
+moved-still scheme pinned blocks old new root trace stands same none =
+    subst (λ (m : LineMap). Moved scheme pinned (state_of old root trace) (state_of m root trace) (uncached (held_in old) blocks)) (sym same)
+    (subst (λ (reads : List ℕ). Moved scheme pinned (state_of old root trace) (state_of old root trace) reads) none (moved-none scheme pinned (state_of old root trace) stands))

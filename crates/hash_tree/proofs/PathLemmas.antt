@@ -8,8 +8,8 @@ use Rattle.std.proofs.lemmas.Bool.{ne_eqb}
 use Rattle.regions.specs.declared.layout.Layout.{Layout}
 use Rattle.regions.specs.Tree.{height_of, leaf_of, parent_in, positions_of}
 use Rattle.regions.proofs.TreeLaws.{level_start-suc, levels-apart}
-use Rattle.line_cache.specs.LineMaps.{HoldParents, parent_block}
-use Rattle.hash_tree.specs.CachedLines.{Held}
+use Rattle.line_cache.specs.LineMaps.{HasParent, HoldParents, Holds, LineMap, parent_block}
+use Rattle.hash_tree.specs.CachedLines.{Held, held_in}
 use Rattle.hash_tree.specs.Paths.{IsAtDepth, path_in}
 use Rattle.hash_tree.specs.TreeSteps.{uncached}
 
@@ -143,3 +143,14 @@ path-absent lines (suc depth) at block below =
     ∙ list_any-append (λ (m : ℕ). eqb m block) (uncached lines front) (uncached lines (at ∷ []))
     ∙ or-neither (list_any (λ (m : ℕ). eqb m block) (uncached lines front)) (list_any (λ (m : ℕ). eqb m block) (uncached lines (at ∷ [])))
     (path-absent lines depth (parent_in 3 at) block (omega (arith, below))) (last-absent (is_some (lines at)) at block below)
+
+-- the blocks of the path of a block that has a line have lines, where each line's parent has one
+pub uncached-held : (lines : LineMap) (depth block : ℕ) → IsAtDepth 3 depth block → ((n : ℕ) → Holds lines n → HasParent lines n) → Holds lines block
+    → [] ≡ uncached (held_in lines) (path_in 3 depth block)
+uncached-held lines zero block at parents held = ap (λ (b : Bool). if b then [] else block ∷ []) (sym held)
+uncached-held lines (suc depth) block at parents held =
+    let above = depth-positive (suc depth) block (omega arith) at in
+    let front = path_in 3 depth (parent_in 3 block) in
+    let first : [] ≡ uncached (held_in lines) front = uncached-held lines depth (parent_in 3 block) (level-parent depth block at) parents (parents block held above) in
+    let last : [] ≡ uncached (held_in lines) (block ∷ []) = ap (λ (b : Bool). if b then [] else block ∷ []) (sym held) in
+    last ∙ ap (λ (xs : List ℕ). xs ++ uncached (held_in lines) (block ∷ [])) first ∙ sym (uncached-append (held_in lines) front (block ∷ []))

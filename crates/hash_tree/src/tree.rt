@@ -232,6 +232,7 @@ impl<L: Lines, V: Veil> Tree<L, V> {
 
     /// Gives the data block at a position a line, and each block of its path, by reads of those that have none, from the root
     /// down. Where a block is read whose digest is not the one that is kept of it, the tree is not to be used again.
+    /// A block that has a line is noted as used alone, since what stands above it cannot leave while it is held.
     /// The path and the pinned blocks keep their lines; of pinned blocks there are at most 9, with their parents.
     pub fn load<O: OffChip>(
         &mut self,
@@ -287,8 +288,12 @@ impl<L: Lines, V: Veil> Tree<L, V> {
         ensures fit { StampsFit stamps.new (history (O.trace bus.new)) }
         ensures same { O.same_memory bus.old bus.new }
     {
-        let _events = bus.events();
         let block = leaf(&self.layout, position);
+        if self.lines.holds(block) {
+            self.lines.touch(block);
+            return Ok(());
+        }
+        let _events = bus.events();
         let depth = height(&self.layout);
         let pinned = with_path(pins, block, depth);
         self.load_path(bus, stamps, block, depth, &pinned)

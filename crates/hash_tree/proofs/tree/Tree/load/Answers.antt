@@ -1,7 +1,10 @@
-use Rattle.std.proofs.Common.{ℕ, List, sym, subst}
+use Rattle.std.proofs.Common.{ℕ, ◌++◌, List, sym, subst}
 use Rattle.std.specs.Prelude.{Contains}
-use Rattle.line_cache.specs.LineMaps.{HoldParents}
-use Rattle.hash_tree.proofs.PathLemmas.{load-depth, pinned-last, pinned-parents}
+use Rattle.regions.specs.Tree.{height_of, leaf_of}
+use Rattle.line_cache.specs.LineMaps.{HoldParents, Holds}
+use Rattle.hash_tree.specs.Paths.{path_of}
+use Rattle.hash_tree.proofs.LoadLemmas.{moved-still, reads-none}
+use Rattle.hash_tree.proofs.PathLemmas.{leaf-depth, load-depth, pinned-last, pinned-parents, uncached-held}
 use Rattle.hash_tree.proofs.PathLoads.{loads-honest}
 use Rattle.hash_tree.proofs.tree.Tree.load.Goals as goal
 
@@ -19,3 +22,18 @@ load_path-requires-clause-parents g c =
 
 pub returns-clause-honest : goal.returns-clause-honest
 returns-clause-honest g c = loads-honest c.load_path.result _ _ _ _ c.load_path.ensures.changed
+
+pub returns-then-holds-clause-ok : goal.returns-then-holds-clause-ok
+returns-then-holds-clause-ok g c =
+    let layout = c.self.inside.layout in
+    let lines = g.L.Lines.lines c.self.inside.lines in
+    let stands = rw (← c.self.view_is) at c.requires.stands in
+    let position = rw (← c.self.view_is) at c.requires.position in
+    let at = leaf-depth layout c.args.position position in
+    let held : Holds lines (leaf_of layout c.args.position) =
+    subst (λ (n : ℕ). Holds lines n) c.leaf-block.ensures.value (sym c.if-holds.ensures.value) in
+    let none = uncached-held lines (height_of layout) (leaf_of layout c.args.position) at (g.met.L.Lines.sound c.self.inside.lines).parents held in
+    rw (← c.self.view_is) (moved-still _ (c.args.pins.now.blocks.items ++ path_of layout c.args.position) (path_of layout c.args.position) _ _ _ _ stands c.touch.ensures.lines none)
+
+pub returns-then-holds-clause-reads : goal.returns-then-holds-clause-reads
+returns-then-holds-clause-reads g c = reads-none _ _
