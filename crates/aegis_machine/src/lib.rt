@@ -12,7 +12,7 @@ pub use ends::{End, has_fuel};
 pub use guarded::Guarded;
 pub use held::{Held, MAX_HELD};
 pub use instructions::{Done, Fault, instruction, permits};
-pub use laws::steps_stay_tied;
+pub use laws::{secure_memory_meets_bus, steps_stay_tied};
 pub use store::Store;
 
 #[cfg(test)]

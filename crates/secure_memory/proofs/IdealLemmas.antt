@@ -123,7 +123,7 @@ not-stopped at (stop.Refused why) old new stopped settled = by stopped.by
 not-stopped at (stop.Tree event) old new stopped settled = settled
 not-stopped at (stop.Log event) old new stopped settled = settled
 
-either : (P Q X : Type 0) (at : ℕ) → (at < OPEN_END → P → X) → (OPEN_END ≤ at → Q → X) → OpenOrBlock (nat_lt at OPEN_END) P Q → X
+pub either : (P Q X : Type 0) (at : ℕ) → (at < OPEN_END → P → X) → (OPEN_END ≤ at → Q → X) → OpenOrBlock (nat_lt at OPEN_END) P Q → X
 either P Q X at one other does =
     elim (cases_Bool (nat_lt at OPEN_END)) [
       | inl open' ↦ one (grind (arith, nat_tests, open')) (subst (λ (b : Bool). OpenOrBlock b P Q) open' does)
@@ -222,7 +222,7 @@ allowed-open Te secure = refl
 allowed-open Ptr secure = refl
 allowed-open Ssp secure = cc
 
-refused-open : (layout : Layout) (mode : Mode) (at : ℕ) → IsTrue (is_secure mode) → at < OPEN_END → word_refusal layout mode Fetch at ≡ Some Rights
+pub refused-open : (layout : Layout) (mode : Mode) (at : ℕ) → IsTrue (is_secure mode) → at < OPEN_END → word_refusal layout mode Fetch at ≡ Some Rights
 refused-open layout mode at secure below =
     let class : class_at layout at ≡ Some Open = class_at-LiesIn layout at Open (omega arith, below) in
     let allowed : is_allowed layout mode Fetch at ≡ false =
@@ -230,7 +230,7 @@ refused-open layout mode at secure below =
     ap (λ (b : Bool). if b then (if at % 4 == 0 then None else Some Misaligned) else Some Rights) allowed
 
 -- what is not refused
-word-parts : (layout : Layout) (mode : Mode) (access : Access) (at : ℕ) → word_refusal layout mode access at ≡ None → IsPlaced layout at × (at % 4 ≡ 0)
+pub word-parts : (layout : Layout) (mode : Mode) (access : Access) (at : ℕ) → word_refusal layout mode access at ≡ None → IsPlaced layout at × (at % 4 ≡ 0)
 word-parts layout mode access at none = by (is_allowed layout mode access at) (at % 4 == 0) refl refl none
   where
     by : (allowed aligned : Bool) → is_allowed layout mode access at ≡ allowed → (at % 4 == 0) ≡ aligned

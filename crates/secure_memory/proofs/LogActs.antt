@@ -219,6 +219,7 @@ log-stops at event old log stamps trace room told inside key few tells fetches =
       events = made.0 ++ BlockRead (Log block) fetches.read ∷ [];
       appended = fetches.event ∙ ap (λ (t : List Event). t ++ BlockRead (Log block) fetches.read ∷ []) made.1 ∙ append_assoc old.trace made.0 (BlockRead (Log block) fetches.read ∷ []);
       moves = All-append-one made.0 (BlockRead (Log block) fetches.read) made.2 refl;
+      closed = omega (arith, inside.from);
       by = IsStoppedBy.log event inside.from fetches;
       parts = record { layout = refl; mode = refl; veil = refl; pinned = refl; key = key; told = tells };
       room = omega (arith, few);

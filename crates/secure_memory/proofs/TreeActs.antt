@@ -222,6 +222,7 @@ tree-stops at event old tree lines stamps trace room told of inside same few tel
           ∙ append_assoc old.trace moves.events (BlockRead (Tree stops_here.n) stops_here.block ∷ []);
       moves = All-append-one moves.events (BlockRead (Tree stops_here.n) stops_here.block)
           (all-move pinned (state_of old.lines old.tree.root old.trace) stops_here.middle moves.events moves.each) refl;
+      closed = omega (arith, inside.from);
       by = IsStoppedBy.tree event (tree-below old.layout at inside) stops_here;
       parts = record { layout = refl; mode = refl; veil = same.veil; pinned = refl; key = refl; told = tells };
       room = few;

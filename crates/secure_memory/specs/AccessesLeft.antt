@@ -29,7 +29,7 @@ either P Q X false one other does = other does
 not-refused : {L : Type 0} (at : ℕ) (why : Why) (old new : Sight L) → IsStoppedBy at old new (stop.Refused why) → ⊥
 not-refused at why old new by = elim by [ ]
 
-loads-leave : {L : Type 0} (in_block : List ℕ → ℕ) (in_word : ℕ → ℕ) (at : ℕ) (answer : Result ℕ Stop) (old new : Sight L) → Loads in_block in_word at answer old new → IsSettled answer
+pub loads-leave : {L : Type 0} (in_block : List ℕ → ℕ) (in_word : ℕ → ℕ) (at : ℕ) (answer : Result ℕ Stop) (old new : Sight L) → Loads in_block in_word at answer old new → IsSettled answer
     → Leaves old new
 loads-leave in_block in_word at (Ok word) old new does settled =
     either (LoadsOpen in_word at word old new) (LoadsBlock in_block at word old new) (Leaves old new) (nat_lt at OPEN_END)
@@ -39,7 +39,7 @@ loads-leave in_block in_word at (Err (stop.Refused why)) old new does settled = 
 loads-leave in_block in_word at (Err (stop.Tree event)) old new does settled = absurd settled
 loads-leave in_block in_word at (Err (stop.Log event)) old new does settled = absurd settled
 
-stores-leave : {L : Type 0} (value : ℕ → ℕ) (left : List ℕ → List ℕ) (events : ℕ → List Event) (at : ℕ) (answer : Result (Unit {0}) Stop) (old new : Sight L)
+pub stores-leave : {L : Type 0} (value : ℕ → ℕ) (left : List ℕ → List ℕ) (events : ℕ → List Event) (at : ℕ) (answer : Result (Unit {0}) Stop) (old new : Sight L)
     → Stores value left events at answer old new → IsSettled answer → Leaves old new
 stores-leave value left events at (Ok done) old new does settled =
     either (StoresOpen events old new) (StoresBlock value left at old new) (Leaves old new) (nat_lt at OPEN_END)
@@ -49,7 +49,7 @@ stores-leave value left events at (Err (stop.Refused why)) old new does settled 
 stores-leave value left events at (Err (stop.Tree event)) old new does settled = absurd settled
 stores-leave value left events at (Err (stop.Log event)) old new does settled = absurd settled
 
-fetches-leave : {L : Type 0} (at : ℕ) (answer : Result ℕ Stop) (old new : Sight L) → FetchesWord at answer old new → IsSettled answer → Leaves old new
+pub fetches-leave : {L : Type 0} (at : ℕ) (answer : Result ℕ Stop) (old new : Sight L) → FetchesWord at answer old new → IsSettled answer → Leaves old new
 fetches-leave at (Ok word) old new does settled =
     record { ready = does.ready word refl; room = (loads-leave _ _ at (Ok word) (pinning _ old) (pinning _ new) does.loads settled).room }
 fetches-leave at (Err (stop.Refused why)) old new does settled = absurd (not-refused at why (pinning _ old) (pinning _ new) does.loads.by)

@@ -82,7 +82,7 @@ pub record Reaches {L : Type 0} (at : ℕ) (old new : Sight L) : Type 0 where
   pub by : IsReachedBy at old new
   pub line : line_in new (place_at old.layout at) ≡ Some payload
 
--- the tree or the log stopped the access, at the read with this number, which is the last event
+-- the tree or the log stopped the access, at the read with this number, which is the last event. No access to an open word is stopped
 pub data IsStoppedBy {L : Type 0} (at : ℕ) (old new : Sight L) : Stop → Type 0 where
   tree : (event : ℕ) → at < LOG_START → Stops (tree_scheme old) (old.pinned ++ path_of old.layout (data_block_at at)) (tree_state old) (tree_state new) event
       → IsStoppedBy at old new (stop.Tree event)
@@ -90,6 +90,7 @@ pub data IsStoppedBy {L : Type 0} (at : ℕ) (old new : Sight L) : Stop → Type
       → IsStoppedBy at old new (stop.Log event)
 
 pub record IsStopped {L : Type 0} (at : ℕ) (reason : Stop) (old new : Sight L) : Type 0 where
+  pub closed : OPEN_END ≤ at
   pub events : List Event
   pub appended : new.trace ≡ old.trace ++ events
   pub moves : All (λ event. IsTrue (is_block_move event)) events

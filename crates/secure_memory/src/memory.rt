@@ -175,6 +175,7 @@ impl<'a, O: OffChip, L: Lines> SecureMemory<'a, O, L> {
             → contents_of self.new.log (history (O.trace self.new.lent.now)) n ≡ Some zero_payload }
         ensures modes { self.new.mode_unit ≡ self.old.mode_unit }
         ensures layout { self.new.layout ≡ self.old.layout }
+        ensures pins { self.new.pins ≡ self.old.pins }
         ensures same { O.same_memory self.old.lent.now self.new.lent.now }
         ensures same_reference { self.new.lent.ghost_name ≡ self.old.lent.ghost_name }
     {
@@ -237,6 +238,7 @@ impl<'a, O: OffChip, L: Lines> SecureMemory<'a, O, L> {
         ensures tree { self.new.tree ≡ self.old.tree }
         ensures modes { self.new.mode_unit ≡ self.old.mode_unit }
         ensures layout { self.new.layout ≡ self.old.layout }
+        ensures pins { self.new.pins ≡ self.old.pins }
         ensures same { O.same_memory self.old.lent.now self.new.lent.now }
         ensures same_reference { self.new.lent.ghost_name ≡ self.old.lent.ghost_name }
     {
