@@ -21,6 +21,8 @@ pub mod KeptLemmas
 mod Examples
 mod EntryExamples
 mod FlushExamples
+mod LeavingExamples
+pub mod LeavingLemmas
 mod StandingExamples
 pub mod LoadLemmas
 pub mod LawProofs

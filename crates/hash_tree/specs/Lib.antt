@@ -3,6 +3,7 @@ pub mod CachedLines
 pub mod Entering
 pub mod Flushes
 pub mod HashTrees
+pub mod Leaving
 pub mod Paths
 pub mod Schemes
 pub mod Standing

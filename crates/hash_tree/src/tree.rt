@@ -16,6 +16,7 @@ ghost use Rattle.hash_tree.specs.AsWritten.{AllAsWritten};
 ghost use Rattle.hash_tree.specs.HashTrees.{nodes_of, scheme_of, state_of};
 ghost use Rattle.hash_tree.specs.contracts.tree.Tree.{the_row};
 ghost use Rattle.hash_tree.specs.TreeParts.{SameTree, StandsOn, with_lines};
+ghost use Rattle.hash_tree.specs.Leaving.{LeavesBy};
 ghost use Rattle.hash_tree.specs.Paths.{IsAtDepth, path_in, path_of};
 ghost use Rattle.hash_tree.specs.Entering.{Entered, SubtreeEntered, WritesPayload, first_leaf, is_static, leaf_moves, moves_below, statics_before};
 ghost use Rattle.hash_tree.specs.Flushes.{Flushed, LineFlushed};
@@ -417,6 +418,8 @@ impl<L: Lines, V: Veil> Tree<L, V> {
         ensures does { Evicted (scheme_of self.old.layout (V.veiled self.old.veil))
             (state_of (L.lines self.old.lines) self.old.root (O.trace bus.old))
             (state_of (L.lines self.new.lines) self.new.root (O.trace bus.new)) block }
+        ensures leaves { LeavesBy (L.lines self.old.lines) block (O.trace bus.old)
+            (O.trace bus.new) }
         ensures fit { StampsFit stamps.new (history (O.trace bus.new)) }
         ensures count { len (L.lines self.new.lines) + 1 ≡ len (L.lines self.old.lines) }
         ensures room { O.room bus.new + 1 ≡ O.room bus.old }

@@ -4,6 +4,7 @@ use Rattle.hash_tree.proofs.CallLemmas.{held-inside, total-kept, stamps-below}
 use Rattle.hash_tree.proofs.SchemeLemmas.{keeps-veil}
 use Rattle.hash_tree.proofs.WriteBackLemmas.{fits-other}
 use Rattle.hash_tree.proofs.EvictLemmas.{evicted-written, evicted-dropped, back-fits, count-removed}
+use Rattle.hash_tree.proofs.LeavingLemmas.{leaves-written, leaves-dropped}
 use Rattle.hash_tree.proofs.tree.Tree.evict.Goals as goal
 
 pub note-requires-clause-inside : goal.note-requires-clause-inside
@@ -52,3 +53,9 @@ returns-then-dirty-clause-total g c = total-kept _ _ _ _ _ c.write_back.ensures.
 
 pub returns-else-dirty-clause-total : goal.returns-else-dirty-clause-total
 returns-else-dirty-clause-total g c = total-kept _ _ _ _ _ c.note.ensures.event.trace c.note.ensures.event.room
+
+pub returns-then-dirty-clause-leaves : goal.returns-then-dirty-clause-leaves
+returns-then-dirty-clause-leaves g c = rw (← c.self.view_is) (leaves-written _ _ c.args.block _ _ c.if-dirty.ensures.value c.write_back.ensures.step.step.event)
+
+pub returns-else-dirty-clause-leaves : goal.returns-else-dirty-clause-leaves
+returns-else-dirty-clause-leaves g c = rw (← c.self.view_is) (leaves-dropped _ c.args.block _ _ c.if-dirty.ensures.value c.note.ensures.event.trace)
