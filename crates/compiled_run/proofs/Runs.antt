@@ -99,9 +99,11 @@ front_with_one (Some old) middle new bytes more whole byte same first second =
     go : (count : ℕ) → new ≡ Some ((old ++ bytes) ++ take count (byte ∷ [])) → AppendsFront (Some old) new whole
     go zero sent =
         (length bytes, sent ∙ ap Some (append-nil (old ++ bytes)) ∙ ap (λ front. Some (old ++ front)) (sym (ap (take (length bytes)) joined ∙ take-append_seam bytes (byte ∷ more))))
-    go (suc count) sent =
-        (length bytes + 1, sent ∙ ap (λ last. Some ((old ++ bytes) ++ last)) (take_all (suc count) (byte ∷ []) (omega arith)) ∙ ap Some (append_assoc old bytes (byte ∷ []))
-        ∙ ap (λ front. Some (old ++ front)) (sym (ap (take (length bytes + 1)) joined ∙ take-append-add bytes (byte ∷ more) 1)))
+    go (suc count) sent = (
+      length bytes + 1,
+      sent ∙ ap (λ last. Some ((old ++ bytes) ++ last)) (take_all (suc count) (byte ∷ []) (omega arith)) ∙ ap Some (append_assoc old bytes (byte ∷ []))
+          ∙ ap (λ front. Some (old ++ front)) (sym (ap (take (length bytes + 1)) joined ∙ take-append-add bytes (byte ∷ more) 1)),
+    )
 
 -- ---- a run
 
@@ -131,7 +133,7 @@ run_ends program image input fuel ending end retired old new compiled only ends 
     let stops : machine_run image input fuel ≡ Stops end ends.0 = stays image input fuel retired end ends.0 ends.1.ended within in
     let meant = compiled.alone.ended input [] fuel end ends.0 stops in
     let bytes : released_in image input retired ≡ (meaning_with program input fuel).traffic.bytes =
-        ap (λ (next : Next Ideal IdealEnd). (state_of next).traffic.bytes) ends.1.ended ∙ ap (λ t. t.bytes) meant.traffic in
+    ap (λ (next : Next Ideal IdealEnd). (state_of next).traffic.bytes) ends.1.ended ∙ ap (λ t. t.bytes) meant.traffic in
     record {
       ended = only (meaning_with program input fuel).end meant.ending;
       bytes = appends_same old new (released_in image input retired) (meaning_with program input fuel).traffic.bytes bytes sent;
@@ -179,8 +181,8 @@ run_is_cut program image input fuel retired old new compiled cut =
     let rest = begins program image input fuel compiled in
     let longer = grows image input fuel retired cut.within in
     let whole : (meaning_with program input fuel).traffic.bytes ≡ (released_in image input cut.before ++ cut.byte ∷ []) ++ (longer.0 ++ rest.0) =
-        rest.1 ∙ ap (λ bytes. bytes ++ rest.0) longer.1 ∙ append_assoc (released_in image input retired) longer.0 rest.0
-        ∙ ap (λ bytes. bytes ++ (longer.0 ++ rest.0)) cut.released in
+    rest.1 ∙ ap (λ bytes. bytes ++ rest.0) longer.1 ∙ append_assoc (released_in image input retired) longer.0 rest.0
+    ∙ ap (λ bytes. bytes ++ (longer.0 ++ rest.0)) cut.released in
     record {
       last = cut;
       bytes = front_with_one old cut.middle new (released_in image input cut.before) (longer.0 ++ rest.0) (meaning_with program input fuel).traffic.bytes cut.byte whole cut.taken cut.front;

@@ -31,7 +31,7 @@ pub record Suffices (program : Program) (input : List ℕ) (fuel : ℕ) : Type 0
 -- A run to an end of the program: the meaning ends so, and all bytes of it were taken. The ideal machine ends so in exactly so many
 -- steps, within the fuel. Where the fuel is enough the meaning ends so with as many turns as the fuel.
 pub record RunEnds (program : Program) (image : Image) (input : List ℕ) (fuel : ℕ) (ending : source.End) (end : IdealEnd) (retired : ℕ)
-  (old new : Option (List ℕ)) : Type 0 where
+    (old new : Option (List ℕ)) : Type 0 where
   pub ended : (meaning_with program input fuel).end ≡ ending
   pub bytes : Appends old new (meaning_with program input fuel).traffic.bytes
   pub steps : EndsAfter image input retired end
