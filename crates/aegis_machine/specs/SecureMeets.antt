@@ -151,28 +151,35 @@ module _ {L M : Type 0} (seen : M → SecureSight L) where
 
   refused-of : {T : Type 0} (why : Why) (answer : Result T Stop) (old new : M) → (answer ≡ Err (stop.Refused why)) × (seen new ≡ seen old)
       → (answer ≡ Err (stop.Refused why)) × Exchanges (bus_sight seen) [] old new
-  refused-of why answer old new does = (does.0, record {
-    makes = record {
-      trace = ap (λ (s : SecureSight L). s.trace) does.1 ∙ sym (append-nil (seen old).trace);
-      layout = ap (λ (s : SecureSight L). s.layout) does.1;
-      veil = ap (λ (s : SecureSight L). veil_of s) does.1;
-      mode = ap (λ (s : SecureSight L). s.mode) does.1;
-    };
-    agrees = λ memory agrees. subst (λ (s : SecureSight L). Agrees s memory) (sym does.1) agrees;
-  })
+  refused-of why answer old new does = (
+    does.0,
+    record {
+      makes = record {
+        trace = ap (λ (s : SecureSight L). s.trace) does.1 ∙ sym (append-nil (seen old).trace);
+        layout = ap (λ (s : SecureSight L). s.layout) does.1;
+        veil = ap (λ (s : SecureSight L). veil_of s) does.1;
+        mode = ap (λ (s : SecureSight L). s.mode) does.1;
+      };
+      agrees = λ memory agrees. subst (λ (s : SecureSight L). Agrees s memory) (sym does.1) agrees;
+    },
+  )
 
   -- the access was stopped
   stopped-makes : (at : ℕ) (reason : Stop) (old new : M) → (one other : SecureSight L) → IsStopped at reason one other
       → one.trace ≡ (seen old).trace → other.trace ≡ (seen new).trace → one.layout ≡ (seen old).layout → other.layout ≡ (seen new).layout
       → one.tree ≡ (seen old).tree → other.tree ≡ (seen new).tree → one.mode ≡ (seen old).mode → other.mode ≡ (seen new).mode
       → (events : List Event) × Makes (bus_sight seen) events old new × (list_all is_block_event events ≡ true)
-  stopped-makes at reason old new one other stopped trace_old trace_new layout_old layout_new tree_old tree_new mode_old mode_new = (stopped.events, record {
-    trace = sym trace_new ∙ stopped.appended ∙ ap (λ (t : List Event). t ++ stopped.events) trace_old;
-    layout = sym layout_new ∙ stopped.parts.layout ∙ layout_old;
-    veil = ap (λ (t : TreeParts L Padding). hidden_payload t.veil) (sym tree_new)
-        ∙ ap (λ (p : Padding). hidden_payload p) stopped.parts.veil ∙ ap (λ (t : TreeParts L Padding). hidden_payload t.veil) tree_old;
-    mode = sym mode_new ∙ stopped.parts.mode ∙ mode_old;
-  }, moved-blocks stopped.events stopped.moves)
+  stopped-makes at reason old new one other stopped trace_old trace_new layout_old layout_new tree_old tree_new mode_old mode_new = (
+    stopped.events,
+    record {
+      trace = sym trace_new ∙ stopped.appended ∙ ap (λ (t : List Event). t ++ stopped.events) trace_old;
+      layout = sym layout_new ∙ stopped.parts.layout ∙ layout_old;
+      veil = ap (λ (t : TreeParts L Padding). hidden_payload t.veil) (sym tree_new)
+          ∙ ap (λ (p : Padding). hidden_payload p) stopped.parts.veil ∙ ap (λ (t : TreeParts L Padding). hidden_payload t.veil) tree_old;
+      mode = sym mode_new ∙ stopped.parts.mode ∙ mode_old;
+    },
+    moved-blocks stopped.events stopped.moves,
+  )
 
   stopped-fails : (T : Type 0) (at : ℕ) (reason : Stop) (old new : M) → IsStopped at reason (seen old) (seen new) → Fails {T = T} (bus_sight seen) (Err reason) old new
   stopped-fails T at (stop.Refused why) old new stopped = elim stopped.by [ ]
@@ -193,9 +200,11 @@ module _ {L M : Type 0} (seen : M → SecureSight L) where
 
   loads-block : (of : ℕ → ℕ) (at word : ℕ) (old new : M) → IsPlaced (seen old).layout at → OPEN_END ≤ at
       → LoadsBlock (λ payload. of (word_at payload at)) at word (seen old) (seen new) → ReadsBlock (bus_sight seen) (λ memory. of (memory (word_start at))) (Ok word) old new
-  loads-block of at word old new placed above loads =
-      (loads.reaches.events, moves-of (λ memory. memory) loads.reaches.events old new loads.reaches.acts loads.reaches.moves,
-      λ memory agrees. ap (λ n. of n) (block-value at old new loads.reaches.payload placed above loads.reaches.acts.parts.layout loads.reaches.line memory agrees) ∙ sym loads.answer)
+  loads-block of at word old new placed above loads = (
+    loads.reaches.events,
+    moves-of (λ memory. memory) loads.reaches.events old new loads.reaches.acts loads.reaches.moves,
+    λ memory agrees. ap (λ n. of n) (block-value at old new loads.reaches.payload placed above loads.reaches.acts.parts.layout loads.reaches.line memory agrees) ∙ sym loads.answer,
+  )
 
   loads-meet : (refusal : Option Why) (of : ℕ → ℕ) (at : ℕ) (answer : Result ℕ Stop) (old new : M) → (refusal ≡ None → IsPlaced (seen old).layout at)
       → Unless refusal answer (seen old) (seen new) (Loads (λ payload. of (word_at payload at)) of at answer (seen old) (seen new))
@@ -283,10 +292,12 @@ module _ {L M : Type 0} (seen : M → SecureSight L) where
       (ReadsBlock (bus_sight seen) (λ memory. memory at) (Ok word) old new) at
       (λ (below : at < OPEN_END) (loads : LoadsOpen (λ word. word) at word (pinning [] (seen old)) (pinning [] (seen new))). absurd (omega (arith, below, known.2)))
       (λ (above : OPEN_END ≤ at) (loads : LoadsBlock (λ payload. word_at payload at) at word (pinning [] (seen old)) (pinning [] (seen new))).
-      let start : word_start at ≡ at = omega (arith, known.1) in
-      (loads.reaches.events, fetched-acts loads.reaches.events old new loads.reaches.acts loads.reaches.moves,
-      λ memory agrees. ap (λ n. memory n) (sym start)
-      ∙ block-value at old new loads.reaches.payload known.0 above loads.reaches.acts.parts.layout loads.reaches.line memory agrees ∙ sym loads.answer)) does.loads
+      let start : word_start at ≡ at = omega (arith, known.1) in (
+        loads.reaches.events,
+        fetched-acts loads.reaches.events old new loads.reaches.acts loads.reaches.moves,
+        λ memory agrees. ap (λ n. memory n) (sym start)
+            ∙ block-value at old new loads.reaches.payload known.0 above loads.reaches.acts.parts.layout loads.reaches.line memory agrees ∙ sym loads.answer,
+      )) does.loads
 
   fetch-parts : (layout : Layout) (mode : Mode) (at : ℕ) → IsTrue (is_secure mode) → word_refusal layout mode Fetch at ≡ None → IsPlaced layout at × (at % 4 ≡ 0) × (OPEN_END ≤ at)
   fetch-parts layout mode at secure none =
@@ -311,8 +322,11 @@ module _ {L M : Type 0} (seen : M → SecureSight L) where
         (λ none is stores. (is, exchanges-of (WordWrite Secure at word ∷ []) old new stores.acts (λ memory. refl))) does.0;
     store_byte = λ old new at byte answer secure does.
         stores-meet (byte_refusal (seen old).layout (seen old).mode Write at) (λ before. with_byte before at byte) _ _ _ at answer old new
-        (λ none is stores. (stores.read, is,
-        exchanges-of (WordRead Secure (word_start at) stores.read ∷ WordWrite Secure (word_start at) (with_byte stores.read at byte) ∷ []) old new stores.acts (λ memory. refl))) does.0;
+        (λ none is stores. (
+          stores.read,
+          is,
+          exchanges-of (WordRead Secure (word_start at) stores.read ∷ WordWrite Secure (word_start at) (with_byte stores.read at byte) ∷ []) old new stores.acts (λ memory. refl),
+        )) does.0;
   }
 
 -- ---- what is left after an access that is not stopped
