@@ -8,6 +8,7 @@ use Rattle.std.proofs.lemmas.List.Folds.{list_any-append}
 use Rattle.aegis_edge.specs.Sink.{IsWithin}
 use Rattle.regions.specs.declared.Layout.{Layout}
 use Rattle.regions.specs.declared.Mode.{Mode}
+use Rattle.regions.specs.declared.Mode.TheVariants.{Std, Te, Ptr, Ssp}
 use Rattle.off_chip.specs.declared.Event.{Event}
 use Rattle.off_chip.specs.declared.Event.TheVariants.{Note}
 use Rattle.off_chip.specs.declared.Mark.TheVariants.{Retire}
@@ -29,9 +30,10 @@ use Rattle.orbis_core.specs.Rows.{Machine, Carries, Executes, GoesOnAfter, IsNoS
 use Rattle.orbis_core.proofs.LeftLemmas.{steps-leave-fewer}
 use Rattle.bus_machine.specs.BusAccesses.{MeetsBus, Sight}
 use Rattle.bus_machine.specs.BusMachine.{LoadedProgram, Veil, blocks_taken}
+use Rattle.bus_machine.proofs.BusStepLemmas.{step-on-bus}
 use Rattle.bus_machine.proofs.SegmentLemmas.{taken-append}
 use Rattle.aegis_machine.specs.declared.instructions.Done.TheVariants as done
-use Rattle.aegis_machine.specs.Guards.{FollowsUp, GoesFurther, IsRetired, Leads, LeadsOn, SetsPrivate, room_after}
+use Rattle.aegis_machine.specs.Guards.{FollowsUp, GoesFurther, IsRetired, Leads, LeadsOn, SetsPrivate, room_after, set_from}
 use Rattle.aegis_machine.specs.Outcomes.{LeavesTied, TakesMore, done_of, done_stopped}
 use Rattle.aegis_machine.specs.Releases.{mark_sent}
 use Rattle.aegis_machine.specs.Ties.{IsTied, StandsAfter, end_of, mode_after}
@@ -125,12 +127,12 @@ within-of (Some left) count piece takes few = omega (arith, takes, few)
 
 -- ---- the room after a step
 
-module _ {M : Type 0} (accesses : Accesses M) (room : M → ℕ) (spends : LeaveOneFewer accesses (λ (memory : M) (n : ℕ). 160 * n ≤ room memory)) (old new : Machine M) where
-  left-after : (ended : StepEnd) → IsSettledEnd ended → Steps accesses old ended new → 16640 ≤ room old.memory → 1060 ≤ room new.memory
-  left-after ended settled step much =
-      let left : 160 * 102 ≤ room new.memory =
-      steps-leave-fewer accesses (λ (memory : M) (n : ℕ). 160 * n ≤ room memory) (λ memory n more. omega (arith, more)) spends old new ended step settled 102 (omega (arith, much)) in
-      omega (arith, left)
+module _ {M : Type 0} (accesses : Accesses M) (ready : M → Type 0) (room : M → ℕ)
+    (spends : LeaveOneFewer accesses (λ (memory : M) (n : ℕ). ready memory × (160 * n ≤ room memory))) (old new : Machine M) where
+  left-after : (ended : StepEnd) → IsSettledEnd ended → Steps accesses old ended new → ready old.memory → 16640 ≤ room old.memory → ready new.memory × (160 * 102 ≤ room new.memory)
+  left-after ended settled step is much =
+      steps-leave-fewer accesses (λ (memory : M) (n : ℕ). ready memory × (160 * n ≤ room memory)) (λ memory n more. (more.0, omega (arith, more.1))) spends old new ended step settled 102
+      (is, omega (arith, much))
 
   suspend-next : end.Suspend ≡ end.Next → ⊥
   suspend-next is = let e : true ≡ false = ap (λ (x : StepEnd). is_some (secure_of_end x)) is in cc
@@ -161,21 +163,43 @@ module _ {M : Type 0} (accesses : Accesses M) (room : M → ℕ) (spends : Leave
 
   -- the fetch alone used room
   suspend-room : (answer : Result ℕ Stop) (middle : M) → accesses.fetch old.memory old.core.pc answer middle
-      → GoesOnAfter accesses answer (record old { memory = middle }) end.Suspend new → 16640 ≤ room old.memory → 16387 ≤ room new.memory
-  suspend-room (Ok word) middle fetched goes_on much =
-      let left : 160 * 103 ≤ room middle = spends.fetch old.memory middle old.core.pc (Ok word) fetched tt 103 (omega (arith, much)) in
+      → GoesOnAfter accesses answer (record old { memory = middle }) end.Suspend new → ready old.memory → 16640 ≤ room old.memory → 16387 ≤ room new.memory
+  suspend-room (Ok word) middle fetched goes_on is much =
+      let left : 160 * 103 ≤ room middle = (spends.fetch old.memory middle old.core.pc (Ok word) fetched tt 103 (is, omega (arith, much))).1 in
       let same : room new.memory ≡ room middle = ap (λ (m : M). room m) (suspend-word middle (instruction_in word) goes_on) in
       omega (arith, left, same)
-  suspend-room (Err reason) middle fetched goes_on much = absurd (suspend-stopped reason goes_on.ends)
+  suspend-room (Err reason) middle fetched goes_on is much = absurd (suspend-stopped reason goes_on.ends)
 
-  pub room-left : (ended : StepEnd) → IsNoStop ended → Steps accesses old ended new → 16640 ≤ room old.memory → room_after ended ≤ room new.memory
-  room-left end.Suspend none step much = suspend-room step.answer step.middle step.fetched step.goes_on much
-  room-left (end.Stopped reason) none step much = absurd (none reason refl)
-  room-left ended none step much = left-after ended tt step much
+  pub room-left : (ended : StepEnd) → IsNoStop ended → Steps accesses old ended new → ready old.memory → 16640 ≤ room old.memory → room_after ended ≤ room new.memory
+  room-left end.Suspend none step is much = suspend-room step.answer step.middle step.fetched step.goes_on is much
+  room-left (end.Stopped reason) none step is much = absurd (none reason refl)
+  room-left ended none step is much = omega (arith, (left-after ended tt step is much).1)
+
+  no-stop-settled : (ended : StepEnd) → IsNoStop ended → IsSettledEnd ended
+  no-stop-settled (end.Stopped reason) none = absurd (none reason refl)
+  no-stop-settled ended none = tt
+
+  pub ready-left : (ended : StepEnd) → IsNoStop ended → Steps accesses old ended new → ready old.memory → 16640 ≤ room old.memory → ready new.memory
+  ready-left ended none step is much = (left-after ended (no-stop-settled ended none) step is much).0
+
+-- the mode from which an instruction that opens or closes private data is permitted
+pub permitted-private : (on : Bool) (mode : Mode) → is_permitted (secure_of_end (end.Private on)) mode ≡ true → mode ≡ set_from on
+permitted-private true Te is = refl
+permitted-private true Std is = cc
+permitted-private true Ptr is = cc
+permitted-private true Ssp is = cc
+permitted-private false Ptr is = refl
+permitted-private false Std is = cc
+permitted-private false Te is = cc
+permitted-private false Ssp is = cc
 
 -- ---- how an instruction leaves the machine
 
 module _ {M : Type 0} (sight : Sight M) (accesses : Accesses M) (meets : MeetsBus sight accesses) (program : LoadedProgram) (old new : Machine M) (tie : IsTied sight program old) where
+  -- no access changes the mode
+  pub mode-stays : (ended : StepEnd) → Steps accesses old ended new → sight.mode new.memory ≡ sight.mode old.memory
+  mode-stays ended step = (step-on-bus sight accesses meets old new ended tie.secure step).makes.mode
+
   pub stopped-leaves : (ended : StepEnd) (reason : Stop) → ended ≡ end.Stopped reason → Steps accesses old ended new → LeavesTied sight program (done_stopped reason) new
   stopped-leaves ended (stop.Refused reason) is step =
       let P : StepEnd → Type 0 = λ e. Steps accesses old e new in (steps-tied sight accesses meets).refused program old new reason tie (subst P is step)
@@ -206,3 +230,9 @@ module _ {M : Type 0} (sight : Sight M) (accesses : Accesses M) (meets : MeetsBu
 pub on-ok : {E : Type 0} (result : Result (Unit {0}) E) (P : Type 0) → P → OnOk result P
 on-ok (Ok done) P holds = holds
 on-ok (Err fault) P holds = tt
+
+-- no stop goes on
+pub stopped-not-goes : (reason : Stop) → done_stopped reason ≡ done.Goes → ⊥
+stopped-not-goes (stop.Refused why) is = cc
+stopped-not-goes (stop.Tree event) is = cc
+stopped-not-goes (stop.Log event) is = cc

@@ -1,10 +1,11 @@
 //! Memory on a bus, as the machine has it.
 ghost use Rattle.std.specs.Prelude.{◌≡◌, ℕ, ◌+◌, ◌*◌, ◌<◌, ◌≤◌, true, [], ◌∷◌, IsTrue, OnOk, ◌↔◌};
+ghost use Rattle.regions.specs.Modes.{is_secure};
 ghost use Rattle.off_chip.specs.declared.Event.TheVariants.{Note};
 ghost use Rattle.off_chip.specs.Histories.{history};
 ghost use Rattle.off_chip.specs.Epochs.{IsQuiet};
 ghost use Rattle.bus_machine.specs.BusAccesses.{Sight};
-ghost use Rattle.aegis_machine.specs.Guards.{GoesFurther, LeadsOn, SetsPrivate, is_own_mark};
+ghost use Rattle.aegis_machine.specs.Guards.{GoesFurther, LeadsOn, SetsPrivate, is_own_mark, set_from};
 
 use off_chip::Mark;
 use orbis_core::Memory;
@@ -22,40 +23,57 @@ pub trait Guarded: Memory {
     /// How many further events there is room for on its bus.
     ghost room: { Self → ℕ };
 
+    /// It stands on its bus, so that each call can follow.
+    ghost ready: { Self → Type 0 };
+
     /// The mode.
     fn mode(&self) -> Mode
         ensures { result ≡ sight.mode self.now };
 
     /// Whether no block of the log was read since the latest check that passed.
     fn quiet(&self) -> bool
+        requires ready { ready self.now }
         ensures { IsTrue result ↔ IsQuiet (history (sight.trace self.now)) };
 
     /// Notes that an instruction is done or that bytes are sent.
     fn note(&mut self, mark: Mark)
+        requires ready { ready self.old }
         requires has_room { 0 < room self.old }
         requires own { is_own_mark mark ≡ true }
         ensures event { LeadsOn sight (Note mark ∷ []) self.old self.new }
-        ensures room { room self.new + 1 ≡ room self.old };
+        ensures room { room self.new + 1 ≡ room self.old }
+        ensures ready { ready self.new };
 
-    /// Lets the program use its private data from now on, or no longer.
+    /// Lets the program use its private data from now on, where it cannot, or no longer, where it can.
     fn set_private(&mut self, on: bool)
+        requires ready { ready self.old }
+        requires from { sight.mode self.old ≡ set_from on }
         ensures sets { SetsPrivate sight on self.old self.new }
-        ensures room { room self.new ≡ room self.old };
+        ensures room { room self.new ≡ room self.old }
+        ensures ready { ready self.new };
 
     /// Checks all reads of the log since the latest check that passed. Takes room for 1,058 events.
     fn check(&mut self) -> Result<(), LogCause>
+        requires ready { ready self.old }
         requires has_room { 1058 ≤ room self.old }
         ensures passed { OnOk result (GoesFurther sight self.old self.new) }
-        ensures room { room self.old ≤ room self.new + 1058 };
+        ensures room { room self.old ≤ room self.new + 1058 }
+        ensures ready { OnOk result (ready self.new) };
 
     /// Runs untrusted code between a mark of suspension and one of resumption. Takes room for 16,386 events.
     fn suspend(&mut self)
+        requires ready { ready self.old }
+        requires secure { IsTrue (is_secure (sight.mode self.old)) }
         requires has_room { 16386 ≤ room self.old }
         ensures phase { GoesFurther sight self.old self.new }
-        ensures room { room self.old ≤ room self.new + 16386 };
+        ensures room { room self.old ≤ room self.new + 16386 }
+        ensures ready { ready self.new };
 
-    /// Its five accesses are told in the form of a bus, and each takes at most 160 events.
+    /// Its five accesses are told in the form of a bus, and each that is not stopped takes at most 160 events, after which it stands.
     ghost meets: { MeetsBus sight Self.accesses };
 
-    ghost spends: { LeaveOneFewer Self.accesses (λ (memory : Self) (n : ℕ). 160 * n ≤ room memory) };
+    ghost spends: { LeaveOneFewer Self.accesses (λ (memory : Self) (n : ℕ). ready memory × (160 * n ≤ room memory)) };
+
+    /// Where it stands, as many accesses are left as there is room for.
+    ghost leaves: { (memory : Self) (n : ℕ) → ready memory → 160 * n ≤ room memory → Self.has_left memory n };
 }

@@ -64,11 +64,13 @@ impl Held {
     /// Sends what is held in one piece: the mark is noted first, and then the piece is handed to the sink. After it nothing is
     /// held. Where nothing is held it makes no event and calls no sink. Takes room for one event.
     pub fn send<M: Guarded, K: Sink>(&mut self, mem: &mut M, out: &mut K) -> Result<(), SinkFault>
+        requires ready { M.ready mem.old }
         requires has_room { 0 < M.room mem.old }
         requires within { IsWithin (K.limit out.old) self.old }
         ensures empty { self.new ≡ [] }
         ensures marked { LeadsOn M.sight (mark_sent self.old) mem.old mem.new }
         ensures room { M.room mem.new + length (mark_sent self.old) ≡ M.room mem.old }
+        ensures ready { M.ready mem.new }
         ensures none { self.old ≡ [] → out.new ≡ out.old }
         ensures taken { OnOk result (Appends (K.written out.old) (K.written out.new) self.old) }
         ensures left { OnOk result (K.limit out.new ≡ limit_after (K.limit out.old) (length self.old)) }

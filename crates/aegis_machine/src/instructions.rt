@@ -1,7 +1,8 @@
 //! One instruction of the secure program, with all that belongs to it.
-ghost use Rattle.std.specs.Prelude.{◌≡◌, ◌+◌, ◌<◌, ◌≤◌, [], length, OnOk};
+ghost use Rattle.std.specs.Prelude.{◌≡◌, true, ◌+◌, ◌<◌, ◌≤◌, [], length, OnOk};
 ghost use Rattle.orbis_core.specs.OwnMemory.{is_permitted, secure_of_end};
 ghost use Rattle.bus_machine.specs.BusMachine.{LoadedProgram};
+ghost use Rattle.aegis_machine.specs.declared.instructions.Done.TheVariants.{Goes};
 ghost use Rattle.aegis_machine.specs.Guards.{FollowsUp, GoesFurther, IsRetired, LeadsOn, room_after};
 ghost use Rattle.aegis_machine.specs.Outcomes.{LeavesTied, TakesMore, done_of, done_stopped};
 ghost use Rattle.aegis_machine.specs.Releases.{mark_sent};
@@ -61,11 +62,13 @@ pub enum Done {
 
 // Makes a check, and sends what is held after it.
 fn settle<M: Guarded, K: Sink>(mem: &mut M, held: &mut Held, out: &mut K) -> Result<(), Fault>
+    requires ready { M.ready mem.old }
     requires has_room { 1059 ≤ M.room mem.old }
     requires takes { TakesMore (K.limit out.old) MAX_HELD }
     requires most { length held.old ≤ MAX_HELD }
     ensures further { OnOk result (GoesFurther M.sight mem.old mem.new) }
     ensures room { M.room mem.old ≤ M.room mem.new + 1059 }
+    ensures ready { OnOk result (M.ready mem.new) }
     ensures empty { OnOk result (held.new ≡ []) }
 {
     if let Err(cause) = mem.check() {
@@ -76,11 +79,13 @@ fn settle<M: Guarded, K: Sink>(mem: &mut M, held: &mut Held, out: &mut K) -> Res
 
 // Sends what is held.
 fn send<M: Guarded, K: Sink>(mem: &mut M, held: &mut Held, out: &mut K) -> Result<(), Fault>
+    requires ready { M.ready mem.old }
     requires has_room { 1 ≤ M.room mem.old }
     requires takes { TakesMore (K.limit out.old) MAX_HELD }
     requires most { length held.old ≤ MAX_HELD }
     ensures event { LeadsOn M.sight (mark_sent held.old) mem.old mem.new }
     ensures room { M.room mem.old ≤ M.room mem.new + 1 }
+    ensures ready { M.ready mem.new }
     ensures empty { held.new ≡ [] }
 {
     match held.send(mem, out) {
@@ -97,11 +102,13 @@ fn release<M: Guarded, K: Sink>(
     out: &mut K,
     byte: u8,
 ) -> Result<(), Fault>
+    requires ready { M.ready mem.old }
     requires has_room { 1059 ≤ M.room mem.old }
     requires takes { TakesMore (K.limit out.old) MAX_HELD }
     requires few { length held.old < MAX_HELD }
     ensures further { OnOk result (GoesFurther M.sight mem.old mem.new) }
     ensures room { M.room mem.old ≤ M.room mem.new + 1059 }
+    ensures ready { OnOk result (M.ready mem.new) }
     ensures few { OnOk result (length held.new < MAX_HELD) }
 {
     let at_once = held.is_empty() && mem.quiet();
@@ -122,11 +129,14 @@ fn follow_up<M: Guarded, K: Sink>(
     out: &mut K,
     end: StepEnd,
 ) -> Result<(), Fault>
+    requires ready { M.ready mem.old }
+    requires permitted { is_permitted (secure_of_end end) (M.sight.mode mem.old) ≡ true }
     requires has_room { room_after end ≤ M.room mem.old }
     requires takes { TakesMore (K.limit out.old) MAX_HELD }
     requires few { length held.old < MAX_HELD }
     ensures follows { OnOk result (FollowsUp M.sight end mem.old mem.new) }
     ensures room { M.room mem.old < M.room mem.new + room_after end }
+    ensures ready { OnOk result (M.ready mem.new) }
     ensures few { OnOk result (length held.new < MAX_HELD) }
 {
     match end {
@@ -158,10 +168,13 @@ fn finish<M: Guarded, K: Sink>(
     out: &mut K,
     end: StepEnd,
 ) -> Result<(), Fault>
+    requires ready { M.ready mem.old }
+    requires permitted { is_permitted (secure_of_end end) (M.sight.mode mem.old) ≡ true }
     requires has_room { room_after end ≤ M.room mem.old }
     requires takes { TakesMore (K.limit out.old) MAX_HELD }
     requires few { length held.old < MAX_HELD }
     ensures retired { OnOk result (IsRetired M.sight end mem.old mem.new) }
+    ensures ready { OnOk result (M.ready mem.new) }
     ensures few { OnOk result (length held.new < MAX_HELD) }
 {
     if let Err(fault) = follow_up(mem, held, out, end) {
@@ -205,7 +218,7 @@ pub fn instruction<M: Guarded, K: Sink>(
     held: &mut Held,
     out: &mut K,
 ) -> Done
-    requires left { M.has_left mem.old 2 }
+    requires ready { M.ready mem.old }
     requires has_room { 16640 ≤ M.room mem.old }
     requires port { port.old.next ≤ length port.old.input.now }
     requires takes { TakesMore (K.limit out.old) MAX_HELD }
@@ -217,13 +230,16 @@ pub fn instruction<M: Guarded, K: Sink>(
         → LeavesTied M.sight program result
         (record { core = core.new; memory = mem.new; port = port.new }) }
     ensures port { port.new.next ≤ length port.new.input.now }
+
+    // Where it goes on, so can the next one.
+    ensures ready { result ≡ Goes → M.ready mem.new }
+    ensures few { result ≡ Goes → length held.new < MAX_HELD }
 {
-    let mode = mem.mode();
     let end = step(core, mem, port);
     if let StepEnd::Stopped(stop) = end {
         return after_stop(stop);
     }
-    if !permits(mode, end) {
+    if !permits(mem.mode(), end) {
         return Done::Refused(Why::Mode);
     }
     match finish(mem, held, out, end) {
