@@ -3,6 +3,7 @@ use Rattle.std.proofs.Common.{◌≡◌, ℕ, zero, suc, ◌+◌, ◌<◌, ◌�
 use Rattle.std.proofs.lemmas.List.{take_more, map-append}
 use Rattle.std.proofs.Common.{append_assoc, length-append}
 use Rattle.orbis_word.specs.declared.Instr.{Instr}
+use Rattle.orbis_word.specs.declared.Instr.TheVariants.{Movhi}
 use Rattle.aegis_num.specs.declared.UnaryOp.{UnaryOp}
 use Rattle.aegis_num.specs.declared.UnaryOp.TheVariants.{Neg, Inv, Not}
 use Rattle.aegis_num.specs.declared.BinaryOp.{BinaryOp}
@@ -15,7 +16,7 @@ use Rattle.aegis_num.specs.declared.limits.TheConstants.{MAX_PARAMETERS}
 use Rattle.ir_code.specs.Lawful.{ends_well, all_hold, named_by}
 use Rattle.codegen.specs.Numbers.{HasSlots}
 use Rattle.codegen.proofs.Holding.{hold-front, hold-back}
-use Rattle.codegen.specs.OpInstructions.{Sites, instructions_of, on_one, on_two}
+use Rattle.codegen.specs.OpInstructions.{Sites, fill, instructions_of, on_one, on_two}
 use Rattle.codegen.specs.ImageCode.{size_of, offset_of, code_size, code_from}
 
 pub code_size-push : (ops : List Op) (o : Op) → code_size (ops ++ o ∷ []) ≡ code_size ops + size_of o
@@ -90,8 +91,8 @@ length-two on.GeU one two e = omega (arith, e)
 pub length-instructions : (at : Sites) (n : ℕ) (o : Op) → length (instructions_of at n o) ≡ size_of o
 length-instructions at n (op.Const to value) = refl
 length-instructions at n (op.Copy to from) = refl
-length-instructions at n (op.Unary operator to a) = ap (λ (l : ℕ). suc (suc l)) (length-one operator _ _ refl)
-length-instructions at n (op.Binary operator to a b) = ap (λ (l : ℕ). suc (suc (suc (suc l)))) (length-two operator _ _ refl)
+length-instructions at n (op.Unary operator to a) = ap suc (length-one operator _ _ refl)
+length-instructions at n (op.Binary operator to a b) = ap (λ (l : ℕ). suc (suc l)) (length-two operator _ _ refl)
 length-instructions at n (op.Test a length token) = refl
 length-instructions at n (op.NonZero a token) = refl
 length-instructions at n (op.Load to array index) = refl
@@ -156,3 +157,14 @@ pub slots-at : (ops : List Op) (i : ℕ) (d : Op) → i < length ops → all_hol
 slots-at [] i d inside h = absurd (omega (arith, inside))
 slots-at (o ∷ ops) zero d inside h = (slots-cons o ops h).0
 slots-at (o ∷ ops) (suc i) d inside h = slots-at ops i d (omega (arith, inside)) (slots-cons o ops h).1
+
+-- ---- registers that are filled one after the other
+
+pub fill-more : (d part i : ℕ) → map Some (fill d part (i + 1) []) ≡ map Some (fill d part i []) ++ Some (Movhi (d + i) (part + i)) ∷ []
+fill-more d part zero = ap (λ (n : ℕ). Some (Movhi n part) ∷ []) (omega arith) ∙ ap (λ (n : ℕ). Some (Movhi (d + 0) n) ∷ []) (omega arith)
+fill-more d part (suc i) =
+    let next : suc i + 1 ≡ suc (i + 1) = omega arith in
+    ap (λ (n : ℕ). map Some (fill d part n [])) next
+    ∙ ap (λ (rest : List (Option Instr)). Some (Movhi d part) ∷ rest) (fill-more (d + 1) (part + 1) i)
+    ∙ ap (λ (n : ℕ). Some (Movhi d part) ∷ (map Some (fill (d + 1) (part + 1) i []) ++ Some (Movhi n (part + 1 + i)) ∷ [])) (omega arith)
+    ∙ ap (λ (n : ℕ). Some (Movhi d part) ∷ (map Some (fill (d + 1) (part + 1) i []) ++ Some (Movhi (d + suc i) n) ∷ [])) (omega arith)

@@ -6,7 +6,7 @@ use Rattle.execution.specs.Traffic.{Element, is_same_element}
 use Rattle.execution.specs.Naming.{traffic_named}
 use Rattle.regions.specs.declared.Layout.{Layout}
 use Rattle.regions.specs.declared.Class.{Class}
-use Rattle.regions.specs.declared.Class.TheVariants.{Code}
+use Rattle.regions.specs.declared.Class.TheVariants.{Open, Code}
 use Rattle.regions.specs.Addresses.{class_at, start_of}
 use Rattle.orbis_word.specs.declared.Instr.{Instr}
 use Rattle.orbis_word.specs.Reading.{instruction_in}
@@ -46,6 +46,7 @@ pub record Fits (w : World) : Type 0 where
   pub apart : (c i d j : ℕ) → i < words_of w.ir c → j < words_of w.ir d → w.home c + 4 * i ≡ w.home d + 4 * j → (c ≡ d) × (i ≡ j)
   pub named : (c i : ℕ) → i < words_of w.ir c → w.name (element_at c i) ≡ w.home c + 4 * i
   pub tells : (one other : Element) → nat_eq (w.name one) (w.name other) ≡ is_same_element one other
+  pub shared : (c : ℕ) → class_of w.ir c ≡ Open → 0x8000 ≤ w.home c
   pub small : (place : ℕ) → address_of w place < 2 ^ 31
 
 -- ---- code

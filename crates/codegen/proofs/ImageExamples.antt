@@ -6,7 +6,7 @@ use Rattle.execution.specs.Naming.{Addressed}
 use Rattle.orbis_word.specs.Reading.{instruction_in, signed}
 use Rattle.orbis_word.specs.Table.{encoding}
 use Rattle.orbis_word.specs.declared.Instr.{Instr}
-use Rattle.orbis_word.specs.declared.Instr.TheVariants.{Ori}
+use Rattle.orbis_word.specs.declared.Instr.TheVariants.{Cust1, Ori}
 use Rattle.orbis_core.specs.declared.memory.Why.TheVariants as why
 use Rattle.execution.proofs.RunLemmas.{ends-one}
 use Rattle.ir_code.specs.FlatMeaning.{flat_step}
@@ -25,23 +25,27 @@ use Rattle.ir_code.specs.FlatStates as flat
 use Rattle.ir_code.proofs.Worked.{straight, looping, cell, cells, having}
 use Rattle.image_file.specs.declared.Image.{Image}
 use Rattle.region_plan.specs.Homes.{home_address}
+use Rattle.codegen.specs.OpInstructions.{start_code}
 use Rattle.codegen.specs.ImageCode.{size_of, offset_of, offset_found, sites_of, code_of, code_blocks, entry_of, constant_words, constant_bytes}
 use Rattle.codegen.specs.EmittedImage.{IsImageOf, elements_at, elements_from, address_name, machine_end, HasFirstWords, MeansCode}
 
 -- ---- numbers of instructions
 
-sizes : (size_of (op.Label 3) ≡ 0) × (size_of (op.Jump 3) ≡ 1) × (size_of (op.Test 1 2 3) ≡ 9) × (size_of (op.Load 1 2 3) ≡ 8)
+sizes : (size_of (op.Label 3) ≡ 0) × (size_of (op.Jump 3) ≡ 1) × (size_of (op.Test 1 2 3) ≡ 8) × (size_of (op.Load 1 2 3) ≡ 5)
 sizes = (refl, refl, refl, refl)
 
--- the loop's label stands at the fifth instruction, and a label that is not there at the first
-offsets : (offset_of looping.ops 0 ≡ 0) × (offset_of looping.ops 1 ≡ 4) × (offset_of looping.ops 2 ≡ 4) × (offset_of looping.ops 3 ≡ 13) × (offset_of looping.ops 99 ≡ 40) × (offset_found looping.ops None ≡ 0)
-    × ((sites_of (λ c. 0) looping).label 9 ≡ 4) × ((sites_of (λ c. 0) looping).label 8 ≡ 0)
+-- the loop's label stands at the fourth instruction, and a label that is not there at the first
+offsets : (offset_of looping.ops 0 ≡ 0) × (offset_of looping.ops 1 ≡ 3) × (offset_of looping.ops 2 ≡ 3) × (offset_of looping.ops 3 ≡ 11) × (offset_of looping.ops 99 ≡ 28) × (offset_found looping.ops None ≡ 0)
+    × ((sites_of (λ c. 0) looping).label 9 ≡ 3) × ((sites_of (λ c. 0) looping).label 8 ≡ 0)
 offsets = (refl, refl, refl, refl, refl, refl, refl, refl)
 
--- a whole block more only where an instruction is over
-blocks : (code_blocks (record { cells = []; ops = replicate 16 op.Exit; entry = 0 }) ≡ 1) × (code_blocks (record { cells = []; ops = replicate 17 op.Exit; entry = 0 }) ≡ 2)
-    × (code_of (λ c. 0) (record { cells = []; ops = replicate 16 op.Exit; entry = 0 }) ≡ code_of (λ c. 0) (record { cells = []; ops = replicate 16 op.Exit; entry = 3 }))
-blocks = (refl, refl, refl)
+-- so many operations of one instruction each, with the entry at the fourth
+abbrev exits : ℕ → Ir
+exits count = record { cells = []; ops = replicate count op.Exit; entry = 3 }
+
+-- a whole block more only where an instruction is over; the start comes last
+blocks : (code_blocks (exits 5) ≡ 1) × (code_blocks (exits 6) ≡ 2) × (code_of (λ c. 0) (exits 5) ≡ replicate 5 (Cust1 1) ++ start_code 5 3) × (entry_of (exits 5) ≡ 5)
+blocks = (refl, refl, refl, refl)
 
 -- ---- constants: those of the cells in order, and then zeros
 
@@ -126,27 +130,27 @@ divide-run = refl
 
 -- the words of the straight line, by hand
 abbrev words : List ℕ
-words = 0x19a00000 ∷ 0xa9ad0048 ∷ 0x19801000 ∷ 0xd40c6800 ∷ 0x19801000 ∷ 0x846c0000 ∷ 0x70000006 ∷ 0x19a00000 ∷ 0xa9ad0169 ∷ 0x19801000 ∷ 0xd40c6800 ∷ 0x19801000 ∷ 0x846c0000 ∷ 0x70000006 ∷ 0x70000001 ∷ 0x15000000 ∷ []
+words = 0x19a00000 ∷ 0xa9ad0048 ∷ 0xd4106800 ∷ 0x84700000 ∷ 0x70000006 ∷ 0x19a00000 ∷ 0xa9ad0169 ∷ 0xd4106800 ∷ 0x84700000 ∷ 0x70000006 ∷ 0x70000001 ∷ 0x1a001000 ∷ 0x1a201001 ∷ 0x1a401002 ∷ 0x1a601003 ∷ 0x1a801004 ∷ 0x1aa01005 ∷ 0x1ac01006 ∷ 0x1ae02000 ∷ 0x1b002001 ∷ 0x1b200001 ∷ 0x03ffffeb ∷ replicate 10 0x15000000
 
 abbrev small : Layout
-small = record { verified = 1; private = 0; constants = 0; code = 1; log = 0; shared = 0; data_fits = lit≤ tt; log_fits = lit≤ tt; shared_fits = lit≤ tt }
+small = record { verified = 1; private = 0; constants = 0; code = 2; log = 0; shared = 0; data_fits = lit≤ tt; log_fits = lit≤ tt; shared_fits = lit≤ tt }
 
-abbrev image_with : (entry : ℕ) → entry < 16 → (code : List ℕ) → length code ≡ 16 → Image
+abbrev image_with : (entry : ℕ) → entry < 32 → (code : List ℕ) → length code ≡ 32 → Image
 image_with entry inside code whole = record { layout = small; entry = entry; constants = []; code = code; shared_words = refl; entry_inside = inside; constants_whole = refl; code_whole = whole }
 
-straight-image : IsImageOf straight (image_with 0 (lit< tt) words refl)
+straight-image : IsImageOf straight (image_with 11 (lit< tt) words refl)
 unfolding instruction_in signed
 straight-image = record { sizes = record { verified = refl; private = refl; constants = refl; code = refl; log = refl; shared = refl }; entry = refl; constants = refl; code = refl }
 
 -- not with another entry, nor with another word
-other-entry : IsImageOf straight (image_with 1 (lit< tt) words refl) → ⊥
-other-entry is = let e : 1 ≡ 0 = is.entry in omega (arith, e)
+other-entry : IsImageOf straight (image_with 0 (lit< tt) words refl) → ⊥
+other-entry is = let e : 0 ≡ 11 = is.entry in omega (arith, e)
 
 -- the second word of the code is another one
 abbrev other-words : List ℕ
-other-words = 0x19a00000 ∷ 0xa9ad0049 ∷ 0x19801000 ∷ 0xd40c6800 ∷ 0x19801000 ∷ 0x846c0000 ∷ 0x70000006 ∷ 0x19a00000 ∷ 0xa9ad0169 ∷ 0x19801000 ∷ 0xd40c6800 ∷ 0x19801000 ∷ 0x846c0000 ∷ 0x70000006 ∷ 0x70000001 ∷ 0x15000000 ∷ []
+other-words = 0x19a00000 ∷ 0xa9ad0049 ∷ 0xd4106800 ∷ 0x84700000 ∷ 0x70000006 ∷ 0x19a00000 ∷ 0xa9ad0169 ∷ 0xd4106800 ∷ 0x84700000 ∷ 0x70000006 ∷ 0x70000001 ∷ 0x1a001000 ∷ 0x1a201001 ∷ 0x1a401002 ∷ 0x1a601003 ∷ 0x1a801004 ∷ 0x1aa01005 ∷ 0x1ac01006 ∷ 0x1ae02000 ∷ 0x1b002001 ∷ 0x1b200001 ∷ 0x03ffffeb ∷ replicate 10 0x15000000
 
-other-code : IsImageOf straight (image_with 0 (lit< tt) other-words refl) → ⊥
+other-code : IsImageOf straight (image_with 11 (lit< tt) other-words refl) → ⊥
 unfolding instruction_in signed
 other-code is = let e : 0x49 ≡ 0x48 = ap (λ (l : List (Option Instr)). constant_in l) is.code in omega (arith, e)
   where
@@ -157,7 +161,7 @@ other-code is = let e : 0x49 ≡ 0x48 = ap (λ (l : List (Option Instr)). consta
 -- ---- images that do not mean the straight line
 
 abbrev filled : ℕ → Image
-filled word = image_with 0 (lit< tt) (word ∷ replicate 15 0x15000000) refl
+filled word = image_with 0 (lit< tt) (word ∷ replicate 31 0x15000000) refl
 
 -- a word that is no instruction is refused
 illegal : MeansCode nothing_loose straight (filled 0xffffffff) → ⊥

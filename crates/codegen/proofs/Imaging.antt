@@ -3,15 +3,17 @@ use Rattle.std.proofs.Common.{◌≡◌, ℕ, ◌+◌, ◌-◌, ◌*◌, ◌^◌
 use Rattle.std.proofs.lemmas.Bool.{eqb-true, true≢false}
 use Rattle.std.specs.Prelude.{slice_index}
 use Rattle.std.specs.List.{slice_get}
-use Rattle.execution.specs.Run.{Next, Stops, state_of}
+use Rattle.execution.specs.Run.{Next, Goes, Stops, and_then, state_of}
 use Rattle.execution.specs.Traffic.{Element, Entry}
 use Rattle.execution.specs.Naming.{Addressed, name_by, element_by, entry_named}
+use Rattle.execution.proofs.RunLemmas.{run-+}
 use Rattle.execution.proofs.NamingLemmas.{name-test, name-address, is-naming, named-entries}
 use Rattle.regions.specs.declared.Class.{Class}
 use Rattle.regions.specs.declared.Class.TheVariants.{Open, Verified, Private, Constant, Code, Logged}
 use Rattle.regions.specs.Addresses.{start_of, LiesIn}
 use Rattle.regions.proofs.AddressLaws.{LiesIn-class_at}
 use Rattle.orbis_core.specs.ByteOrder.{bytes_of, words_in}
+use Rattle.orbis_word.specs.declared.Instr.TheVariants.{Nop}
 use Rattle.orbis_core.specs.Ideal as ideal
 use Rattle.orbis_core.specs.Ideal.{Ideal, IdealEnd, ideal_step, ideal_start, static_memory}
 use Rattle.orbis_core.specs.IdealLaws.{IsWholeState}
@@ -23,20 +25,22 @@ use Rattle.ir_code.specs.declared.Ir.{Ir}
 use Rattle.ir_code.specs.FlatStates as flat
 use Rattle.ir_code.specs.FlatStates.{Word, FlatState, FlatEnd, words_of, class_of, class_in, first_flat, first_in, element_at}
 use Rattle.ir_code.specs.FlatMeaning.{flat_run}
+use Rattle.ir_code.specs.OpTable.{start_weight}
 use Rattle.ir_code.specs.Lawful.{IsLawful, has_first, is_constant, is_code, is_data}
 use Rattle.region_plan.specs.Homes.{home_address, first_address, class_words}
 use Rattle.region_plan.proofs.HomeLaws.{IsPlaced, placed, first-aligned, hold-at, IsCell, cell-of}
 use Rattle.image_file.specs.declared.Image.{Image}
 use Rattle.image_file.specs.ImageTable.{static_bytes, HoldsWords}
-use Rattle.codegen.specs.OpInstructions.{instructions_of}
-use Rattle.codegen.specs.ImageCode.{code_blocks, code_of, code_size, constant_words, offset_of}
+use Rattle.codegen.specs.OpInstructions.{instructions_of, start_code}
+use Rattle.codegen.specs.ImageCode.{code_blocks, code_from, code_of, code_size, constant_words, offset_of, start_size}
 use Rattle.codegen.specs.EmittedImage.{IsImageOf, elements_from, address_name, image_run, machine_end, EndsLikeCode, IsAhead, MeansCode, HasFirstWords, ImagesMeanCode}
 use Rattle.codegen.proofs.Registers.{zeros}
-use Rattle.codegen.proofs.Comes.{World, Fits, HasCode, Related, address_of, sites, word_held}
+use Rattle.codegen.proofs.Comes.{World, Fits, HasCode, Related, Tied, address_of, sites, standing, steps_of, word_held}
 use Rattle.codegen.proofs.Elements.{elements-apart, element-listed}
 use Rattle.codegen.proofs.Ops.{forgot}
-use Rattle.codegen.proofs.Placing.{op-stands, offset-le}
+use Rattle.codegen.proofs.Placing.{length-code, op-stands, offset-le, rest-of}
 use Rattle.codegen.proofs.Running.{Laid, NeverStuck, forwards, Back, backwards}
+use Rattle.codegen.proofs.Starting.{after-start, begins}
 use Rattle.codegen.proofs.Statics.{index-after, all-join, bytes-small, empty-index, image-words, constant-at, static-inside, static-outside, words-stand}
 
 module _ (loose : Class → Bool) (ir : Ir) (image : Image) (lawful : IsLawful loose ir) (first : HasFirstWords ir.cells) (is : IsImageOf ir image) (holds : HoldsWords image) where
@@ -53,6 +57,14 @@ module _ (loose : Class → Bool) (ir : Ir) (image : Image) (lawful : IsLawful l
   at-home : IsPlaced image.layout ir
   at-home = placed image.layout ir (code_blocks ir) is.sizes lawful.form.no_code
 
+  shared-home : (c : ℕ) (class : Class) → class ≡ Open → 0x8000 ≤ first_address image.layout class + 4 * class_words class (take c ir.cells)
+  shared-home c Open is = omega arith
+  shared-home c Verified is = absurd (grind (arith, is))
+  shared-home c Private is = absurd (grind (arith, is))
+  shared-home c Constant is = absurd (grind (arith, is))
+  shared-home c Code is = absurd (grind (arith, is))
+  shared-home c Logged is = absurd (grind (arith, is))
+
   fits : Fits world
   unfolding world
   fits = record {
@@ -62,6 +74,7 @@ module _ (loose : Class → Bool) (ir : Ir) (image : Image) (lawful : IsLawful l
     named = λ c i below. name-address (elements_from (home_address image.layout ir) 0 ir.cells) (elements-apart ir (home_address image.layout ir) at-home.apart) _
         (element-listed ir (home_address image.layout ir) c i below);
     tells = name-test (elements_from (home_address image.layout ir) 0 ir.cells);
+    shared = λ c is. shared-home c (class_of ir c) is;
     small = λ place.
         let most : offset_of ir.ops place ≤ code_size ir.ops = offset-le ir.ops place in
         let blocks : image.layout.code ≡ code_blocks ir = is.sizes.code in
@@ -100,6 +113,19 @@ module _ (loose : Class → Bool) (ir : Ir) (image : Image) (lawful : IsLawful l
   unfolding world
   code-stands = record { all = words-stand world image.code (code_of (home_address image.layout ir) ir) 0 is.code (omega (arith, code-whole)) static-code }
 
+  -- that of the start comes after that of the operations
+  start-stands : HasCode world (start_of image.layout Code + 4 * code_size ir.ops)
+      (start_code (code_size ir.ops) (offset_of ir.ops ir.entry) ++ replicate (16 * code_blocks ir - (code_size ir.ops + start_size)) (Nop 0))
+      (start_of image.layout Code + 4 * (0 + length (code_of (home_address image.layout ir) ir)))
+  unfolding world
+  start-stands =
+      let size : length (code_from (sites world) 0 ir.ops) ≡ code_size ir.ops = length-code (sites world) 0 ir.ops in
+      let place : start_of image.layout Code + 4 * 0 + 4 * length (code_from (sites world) 0 ir.ops) ≡ start_of image.layout Code + 4 * code_size ir.ops = omega (arith, size) in
+      subst (λ (n : ℕ). HasCode world n (start_code (code_size ir.ops) (offset_of ir.ops ir.entry) ++ replicate (16 * code_blocks ir - (code_size ir.ops + start_size)) (Nop 0))
+      (start_of image.layout Code + 4 * (0 + length (code_of (home_address image.layout ir) ir)))) place
+      (rest-of world (code_from (sites world) 0 ir.ops) (start_code (code_size ir.ops) (offset_of ir.ops ir.entry) ++ replicate (16 * code_blocks ir - (code_size ir.ops + start_size)) (Nop 0))
+      (start_of image.layout Code + 4 * 0) _ code-stands)
+
   laid : Laid world
   unfolding world
   laid = record {
@@ -109,7 +135,7 @@ module _ (loose : Class → Bool) (ir : Ir) (image : Image) (lawful : IsLawful l
         let start : start_of image.layout Code + 4 * 0 ≡ start_of image.layout Code = omega arith in
         let number : 0 + offset_of ir.ops place ≡ offset_of ir.ops place = omega arith in
         subst (λ (n : ℕ). HasCode world (address_of world place) (instructions_of (sites world) n o) (address_of world (place + 1))) number
-        (op-stands world (sites world) ir.ops (replicate (16 * code_blocks ir - code_size ir.ops) _) 0 (start_of image.layout Code) _ place o
+        (op-stands world (sites world) ir.ops (start_code (code_size ir.ops) (offset_of ir.ops ir.entry) ++ replicate (16 * code_blocks ir - (code_size ir.ops + start_size)) _) 0 (start_of image.layout Code) _ place o
         (subst (λ (n : ℕ). HasCode world n (code_of (home_address image.layout ir) ir) (start_of image.layout Code + 4 * (0 + length (code_of (home_address image.layout ir) ir)))) start code-stands) there);
   }
 
@@ -162,21 +188,30 @@ module _ (loose : Class → Bool) (ir : Ir) (image : Image) (lawful : IsLawful l
     abbrev flat_start : FlatState
     flat_start = first_flat ir input entries
 
-    start-related : Related world flat_start start
-    unfolding world
-    start-related = record {
-      flag = false;
-      registers = zeros;
-      memory = static_memory image.layout (static_bytes image);
-      is = ap (λ (n : ℕ). ideal_start image.layout (static_bytes image) n input words) is.entry;
-      tied = record { held = λ c i below kept. starts-with c i below; code = λ at class. refl };
-      handed = forgot world zeros;
-    }
+    -- the machine after the start
+    begun : Ideal
+    begun = standing world (address_of world ir.entry) false zeros flat_start (static_memory image.layout (static_bytes image))
 
-    start-whole : IsWholeState start
+    first-tied : Tied world flat_start.cells (static_memory image.layout (static_bytes image))
+    unfolding world
+    first-tied = record { held = λ c i below kept. starts-with c i below; code = λ at class. refl }
+
+    came : steps_of world start_size start ≡ Goes begun
+    unfolding world begun
+    came =
+        ap (λ (n : ℕ). steps_of world start_size (ideal_start image.layout (static_bytes image) n input words)) is.entry
+        ∙ begins world fits flat_start (static_memory image.layout (static_bytes image)) first-tied (code_size ir.ops) ir.entry _ _ start-stands
+
+    start-related : Related world flat_start begun
+    unfolding world begun
+    start-related = record { flag = false; registers = zeros; memory = static_memory image.layout (static_bytes image); is = refl; tied = first-tied; handed = forgot world zeros }
+
+    start-whole : IsWholeState begun
+    unfolding world
     start-whole =
-        states-whole image.layout loose (static_bytes image) image.entry input words 0
-        (all-join (λ byte. byte < 2 ^ 8) image.constants (bytes_of image.code) holds.constants (bytes-small image.code)) image.entry_inside
+        subst (λ (next : Next Ideal IdealEnd). IsWholeState (state_of next)) came
+        (states-whole image.layout loose (static_bytes image) image.entry input words start_size
+        (all-join (λ byte. byte < 2 ^ 8) image.constants (bytes_of image.code) holds.constants (bytes-small image.code)) image.entry_inside)
 
     never : NeverStuck world flat_start
     unfolding world
@@ -186,13 +221,15 @@ module _ (loose : Class → Bool) (ir : Ir) (image : Image) (lawful : IsLawful l
         (steps : ℕ) × (final : IdealEnd) × (state : Ideal) × (image_run loose image input words steps ≡ Stops final state) × EndsLikeCode (address_name image.layout ir) end at final state × (steps ≤ at.weight)
     unfolding world
     means-forward ops end at e =
-        let r = forwards world laid ops flat_start start end at start-related start-whole never e in
+        let r = forwards world laid ops flat_start begun end at start-related start-whole never e in
         let few : r.1.n ≤ r.0 = r.1.few in
-        let bound : r.0 + 0 ≤ at.weight = r.2 in
-        (r.1.n, r.1.final, r.1.to, r.1.ran, record { ending = r.1.ending; traffic = r.1.traffic }, omega (arith, few, bound))
+        let bound : r.0 + start_weight ≤ at.weight = r.2 in
+        let ran : steps_of world (start_size + r.1.n) start ≡ Stops r.1.final r.1.to =
+        run-+ (ideal_step image.layout loose) start_size r.1.n start ∙ ap (λ (x : Next Ideal IdealEnd). and_then x (steps_of world r.1.n)) came ∙ r.1.ran in
+        (start_size + r.1.n, r.1.final, r.1.to, ran, record { ending = r.1.ending; traffic = r.1.traffic }, omega (arith, few, bound))
 
     back : (steps : ℕ) → Back world flat_start start steps
-    back steps = backwards world laid steps flat_start start start-related start-whole never
+    back = after-start world start_size flat_start start begun came start-related (λ k. backwards world laid k flat_start begun start-related start-whole never)
 
     means-backward : (steps : ℕ) → IsAhead (address_name image.layout ir) (flat_run loose ir input entries) steps (state_of (image_run loose image input words steps))
     unfolding world

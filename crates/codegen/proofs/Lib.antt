@@ -18,5 +18,6 @@ pub mod Rules
 pub mod Running
 mod SameCode
 pub mod Sizes
+pub mod Starting
 pub mod Statics
 mod TablePlaces

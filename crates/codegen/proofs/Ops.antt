@@ -27,13 +27,13 @@ use Rattle.ir_code.specs.OpTable.{weight_of}
 use Rattle.ir_code.specs.FlatStates as flat
 use Rattle.ir_code.specs.FlatStates.{Held, Word, Link, FlatState, FlatEnd, Step, Later, pick, stuck, with_traffic, words_of, class_of, mode_of, is_shared, changed, filled, fetched, label_place, element_at}
 use Rattle.ir_code.specs.FlatMeaning.{effect as effect_on, reading, written, writing, put, jumping, going, with_given, with_link, keeping_link}
-use Rattle.codegen.specs.OpInstructions.{upper, lower, read_into, keep, flagged, distance, on_one, on_two, instructions_of}
+use Rattle.codegen.specs.OpInstructions.{base, upper, lower, read_into, keep, flagged, distance, on_one, on_two, instructions_of}
 use Rattle.codegen.specs.ImageCode.{offset_of, offset_found}
-use Rattle.codegen.proofs.Registers.{Registers, listed, Name, R3, R4, R5, R6, R7, R8, R9, R11, R12, R13, R14, R15, number_of, set}
+use Rattle.codegen.proofs.Registers.{Registers, listed, Name, R3, R4, R5, R6, R7, R8, R9, R11, R13, R14, R15, number_of, set}
 use Rattle.codegen.proofs.Comes.{World, Fits, HasCode, first-stands, rest-stands, sites, core_at, standing, word_held, Tied, Handed, Has, Comes, steps, stays, address_of}
 use Rattle.codegen.proofs.Rules.{to-next, went, among, writes, compares, proceeds, jumps, links, reads, read-step, writes-cell, write-step, tied-new, lt-from, exits, releases, inputs, checks, suspends, turns-private, turns-public}
 use Rattle.codegen.proofs.Remainders.{remainder, signed-remainder}
-use Rattle.codegen.proofs.Parts.{near, joined, joined-alone, reached, lands, fetches, puts, numbers-13, numbers-14, indexes, flags, index-tests, divide-tests, labelled}
+use Rattle.codegen.proofs.Parts.{near, joined, based, at-home, reached, lands, fetches, puts, numbers-13, numbers-14, indexes, flags, index-tests, divide-tests, labelled}
 
 -- ---- operators
 
@@ -119,11 +119,6 @@ module _ (w : World) (h : Fits w) (f : FlatState) {lo : Bool} {pc to : ℕ} {fla
 pub forgot : (w : World) (r : Registers) → Handed w (λ slot. None) None None r
 forgot w r = record { slot_0 = tt; slot_1 = tt; slot_2 = tt; slot_3 = tt; slot_4 = tt; slot_5 = tt; link = tt; result = tt }
 
--- register 12 hands nothing over
-pub still : (w : World) (slots : ℕ → Option ℕ) (call answer : Option ℕ) (r : Registers) (v : ℕ) → Handed w slots call answer r → Handed w slots call answer (set R12 v r)
-still w slots call answer r v h =
-    record { slot_0 = h.slot_0; slot_1 = h.slot_1; slot_2 = h.slot_2; slot_3 = h.slot_3; slot_4 = h.slot_4; slot_5 = h.slot_5; link = h.link; result = h.result }
-
 pub unlinked : (w : World) (slots : ℕ → Option ℕ) (call answer : Option ℕ) (r : Registers) → Handed w slots call answer r → Handed w slots None answer r
 unlinked w slots call answer r h =
     record { slot_0 = h.slot_0; slot_1 = h.slot_1; slot_2 = h.slot_2; slot_3 = h.slot_3; slot_4 = h.slot_4; slot_5 = h.slot_5; link = tt; result = h.result }
@@ -149,15 +144,15 @@ Does w f o =
 module _ (w : World) (h : Fits w) (g : FlatState) {pc to : ℕ} {flag : Bool} {r : Registers} {m : ℕ → ℕ} where
   -- an operator that does not trap, and its value in a cell
   chosen : (o : BinaryOp) (c : ℕ) (b : Bool) → traps o r.r14 ≡ b → r.r13 < 2 ^ 32 → r.r14 < 2 ^ 32 → Tied w g.cells m → HasCode w pc (on_two o (keep (w.home c) 13 [])) to →
-      to ≡ address_of w g.place → ((r' : Registers) → Handed w g.slots g.link g.result r') → Comes w false 8 (standing w pc flag r g m) (pick b stuck (put w.ir c (binary o r.r13 r.r14)) g)
+      to ≡ address_of w g.place → ((r' : Registers) → Handed w g.slots g.link g.result r') → Comes w false 10 (standing w pc flag r g m) (pick b stuck (put w.ir c (binary o r.r13 r.r14)) g)
   chosen o c true fine small small' tied code there handed = record { comes = tt }
   chosen o c false fine small small' tied code there handed =
-      twos w h g o 2 fine small small' tied code (λ k pc' flag' r' is code'. puts w h g c 13 (binary o r.r13 r.r14) tied code' there (λ v. is) (λ v. handed _))
+      twos w h g o 4 fine small small' tied code (λ k pc' flag' r' is code'. puts w h g c 13 (binary o r.r13 r.r14) tied code' there is (handed _))
 
 -- a jump where a test holds
 module _ (w : World) (h : Fits w) (g : FlatState) {pc to : ℕ} {r : Registers} {m : ℕ → ℕ} where
   branches : (b : Bool) (l n : ℕ) → Tied w g.cells m → HasCode w pc (Bf (distance n ((sites w).label l)) ∷ []) to → to ≡ address_of w g.place → pc ≡ start_of w.layout Code + 4 * n →
-      Handed w g.slots g.link g.result r → Comes w false 1 (standing w pc b r g m) (pick b (jumping w.ir l) (λ x. Goes x) g)
+      Handed w g.slots g.link g.result r → Comes w false 2 (standing w pc b r g m) (pick b (jumping w.ir l) (λ x. Goes x) g)
   branches true l n tied code there at handed = labelled w h g l n tied code refl at handed
   branches false l n tied code there at handed = proceeds w h g tied code refl (λ code'. lands w g code' there tied handed)
 
@@ -171,11 +166,13 @@ applied true false one other f e = e
 applied false l one other f e = refl
 
 -- the address of an element of an array
-element-at : (w : World) (h : Fits w) (c i : ℕ) → i < words_of w.ir c → displaced (wrapped (upper (w.home c) * 2 ^ 16 + wrapped (i * 4))) (lower (w.home c)) ≡ w.home c + 4 * i
-element-at w h c i below =
+element-at : (w : World) (h : Fits w) (c i : ℕ) (r : Registers) → i < words_of w.ir c →
+    displaced (wrapped (slice_index (listed r) (base (w.home c)) + wrapped (i * 4))) (lower (w.home c)) ≡ w.home c + 4 * i
+element-at w h c i r below =
     let far : w.home c + 4 * i < 2 ^ 31 = near w.layout (w.home c + 4 * i) (class_of w.ir c) (h.in_class c i below) in
     let four : wrapped (i * 4) ≡ 4 * i = omega (arith, far) in
-    ap (λ (x : ℕ). displaced (wrapped (upper (w.home c) * 2 ^ 16 + x)) (lower (w.home c))) four ∙ joined (w.home c) (4 * i) far
+    ap (λ (x : ℕ). displaced (wrapped (x + wrapped (i * 4))) (lower (w.home c))) (based w h c r (omega (arith, below)))
+    ∙ ap (λ (x : ℕ). displaced (wrapped (upper (w.home c) * 2 ^ 16 + x)) (lower (w.home c))) four ∙ joined (w.home c) (4 * i) far
 
 -- where flat code comes to is the same
 onto : {w : World} {lo : Bool} {hi : ℕ} {s : Ideal} {one other : Step} → one ≡ other → Comes w lo hi s one → Comes w lo hi s other
@@ -217,49 +214,49 @@ module _ (w : World) (h : Fits w) (g : FlatState) (lo : Bool) (hi pc to : ℕ) (
 -- ---- slots
 
 -- the register of a slot has what was handed over there
-slot-has : (w : World) (slots : ℕ → Option ℕ) (call answer : Option ℕ) (r : Registers) (v slot word : ℕ) → Handed w slots call answer r → nat_lt slot MAX_PARAMETERS ≡ true → slots slot ≡ Some word →
-    slice_index (listed (set R12 v r)) (3 + slot) ≡ word
-slot-has w slots call answer r v zero word h few is = subst (λ (x : Option ℕ). Has x r.r3) is h.slot_0
-slot-has w slots call answer r v (suc zero) word h few is = subst (λ (x : Option ℕ). Has x r.r4) is h.slot_1
-slot-has w slots call answer r v (suc (suc zero)) word h few is = subst (λ (x : Option ℕ). Has x r.r5) is h.slot_2
-slot-has w slots call answer r v (suc (suc (suc zero))) word h few is = subst (λ (x : Option ℕ). Has x r.r6) is h.slot_3
-slot-has w slots call answer r v (suc (suc (suc (suc zero)))) word h few is = subst (λ (x : Option ℕ). Has x r.r7) is h.slot_4
-slot-has w slots call answer r v (suc (suc (suc (suc (suc zero))))) word h few is = subst (λ (x : Option ℕ). Has x r.r8) is h.slot_5
-slot-has w slots call answer r v (suc (suc (suc (suc (suc (suc slot)))))) word h few is = absurd (grind (arith, nat_tests, few))
+slot-has : (w : World) (slots : ℕ → Option ℕ) (call answer : Option ℕ) (r : Registers) (slot word : ℕ) → Handed w slots call answer r → nat_lt slot MAX_PARAMETERS ≡ true → slots slot ≡ Some word →
+    slice_index (listed r) (3 + slot) ≡ word
+slot-has w slots call answer r zero word h few is = subst (λ (x : Option ℕ). Has x r.r3) is h.slot_0
+slot-has w slots call answer r (suc zero) word h few is = subst (λ (x : Option ℕ). Has x r.r4) is h.slot_1
+slot-has w slots call answer r (suc (suc zero)) word h few is = subst (λ (x : Option ℕ). Has x r.r5) is h.slot_2
+slot-has w slots call answer r (suc (suc (suc zero))) word h few is = subst (λ (x : Option ℕ). Has x r.r6) is h.slot_3
+slot-has w slots call answer r (suc (suc (suc (suc zero)))) word h few is = subst (λ (x : Option ℕ). Has x r.r7) is h.slot_4
+slot-has w slots call answer r (suc (suc (suc (suc (suc zero))))) word h few is = subst (λ (x : Option ℕ). Has x r.r8) is h.slot_5
+slot-has w slots call answer r (suc (suc (suc (suc (suc (suc slot)))))) word h few is = absurd (grind (arith, nat_tests, few))
 
 -- a register that is the register of a slot
 pub record IsSlot (w : World) (slot : ℕ) : Type 0 where
   pub name : Name
   pub number : number_of name ≡ 3 + slot
-  pub fills : (slots : ℕ → Option ℕ) (call answer : Option ℕ) (r : Registers) (v word : ℕ) → Handed w slots call answer r → Handed w (filled slots slot word) None answer (set name word (set R12 v r))
+  pub fills : (slots : ℕ → Option ℕ) (call answer : Option ℕ) (r : Registers) (word : ℕ) → Handed w slots call answer r → Handed w (filled slots slot word) None answer (set name word r)
 
 is-slot : (w : World) (slot : ℕ) → nat_lt slot MAX_PARAMETERS ≡ true → IsSlot w slot
-is-slot w zero few = record { name = R3; number = refl; fills = λ slots call answer r v word h. record { slot_0 = refl; slot_1 = h.slot_1; slot_2 = h.slot_2; slot_3 = h.slot_3; slot_4 = h.slot_4; slot_5 = h.slot_5; link = tt; result = h.result } }
-is-slot w (suc zero) few = record { name = R4; number = refl; fills = λ slots call answer r v word h. record { slot_0 = h.slot_0; slot_1 = refl; slot_2 = h.slot_2; slot_3 = h.slot_3; slot_4 = h.slot_4; slot_5 = h.slot_5; link = tt; result = h.result } }
-is-slot w (suc (suc zero)) few = record { name = R5; number = refl; fills = λ slots call answer r v word h. record { slot_0 = h.slot_0; slot_1 = h.slot_1; slot_2 = refl; slot_3 = h.slot_3; slot_4 = h.slot_4; slot_5 = h.slot_5; link = tt; result = h.result } }
-is-slot w (suc (suc (suc zero))) few = record { name = R6; number = refl; fills = λ slots call answer r v word h. record { slot_0 = h.slot_0; slot_1 = h.slot_1; slot_2 = h.slot_2; slot_3 = refl; slot_4 = h.slot_4; slot_5 = h.slot_5; link = tt; result = h.result } }
-is-slot w (suc (suc (suc (suc zero)))) few = record { name = R7; number = refl; fills = λ slots call answer r v word h. record { slot_0 = h.slot_0; slot_1 = h.slot_1; slot_2 = h.slot_2; slot_3 = h.slot_3; slot_4 = refl; slot_5 = h.slot_5; link = tt; result = h.result } }
-is-slot w (suc (suc (suc (suc (suc zero))))) few = record { name = R8; number = refl; fills = λ slots call answer r v word h. record { slot_0 = h.slot_0; slot_1 = h.slot_1; slot_2 = h.slot_2; slot_3 = h.slot_3; slot_4 = h.slot_4; slot_5 = refl; link = tt; result = h.result } }
+is-slot w zero few = record { name = R3; number = refl; fills = λ slots call answer r word h. record { slot_0 = refl; slot_1 = h.slot_1; slot_2 = h.slot_2; slot_3 = h.slot_3; slot_4 = h.slot_4; slot_5 = h.slot_5; link = tt; result = h.result } }
+is-slot w (suc zero) few = record { name = R4; number = refl; fills = λ slots call answer r word h. record { slot_0 = h.slot_0; slot_1 = refl; slot_2 = h.slot_2; slot_3 = h.slot_3; slot_4 = h.slot_4; slot_5 = h.slot_5; link = tt; result = h.result } }
+is-slot w (suc (suc zero)) few = record { name = R5; number = refl; fills = λ slots call answer r word h. record { slot_0 = h.slot_0; slot_1 = h.slot_1; slot_2 = refl; slot_3 = h.slot_3; slot_4 = h.slot_4; slot_5 = h.slot_5; link = tt; result = h.result } }
+is-slot w (suc (suc (suc zero))) few = record { name = R6; number = refl; fills = λ slots call answer r word h. record { slot_0 = h.slot_0; slot_1 = h.slot_1; slot_2 = h.slot_2; slot_3 = refl; slot_4 = h.slot_4; slot_5 = h.slot_5; link = tt; result = h.result } }
+is-slot w (suc (suc (suc (suc zero)))) few = record { name = R7; number = refl; fills = λ slots call answer r word h. record { slot_0 = h.slot_0; slot_1 = h.slot_1; slot_2 = h.slot_2; slot_3 = h.slot_3; slot_4 = refl; slot_5 = h.slot_5; link = tt; result = h.result } }
+is-slot w (suc (suc (suc (suc (suc zero))))) few = record { name = R8; number = refl; fills = λ slots call answer r word h. record { slot_0 = h.slot_0; slot_1 = h.slot_1; slot_2 = h.slot_2; slot_3 = h.slot_3; slot_4 = h.slot_4; slot_5 = refl; link = tt; result = h.result } }
 is-slot w (suc (suc (suc (suc (suc (suc slot)))))) few = absurd (grind (arith, nat_tests, few))
 
 module _ (w : World) (h : Fits w) (f : FlatState) where
   pub const : (to value : ℕ) → Does w f (op.Const to value)
   const to value flag r m x =
       let g : FlatState = fetched (op.Const to value) f in
-      numbers-13 w h g value x.tied x.code (λ code. puts w h g to 13 value x.tied code refl (λ v. refl) (λ v. forgot w _))
+      numbers-13 w h g value x.tied x.code (λ code. puts w h g to 13 value x.tied code refl refl (forgot w _))
 
   pub copy : (to from : ℕ) → Does w f (op.Copy to from)
   copy to from flag r m x =
       let g : FlatState = fetched (op.Copy to from) f in
       fetches w h g from R13 (put w.ir to) x.tied x.small x.code
-      (λ word t s code. puts w h (with_traffic t g) to 13 word x.tied code refl (λ v. refl) (λ v. forgot w _))
+      (λ word t s code. puts w h (with_traffic t g) to 13 word x.tied code refl refl (forgot w _))
 
   pub unary-op : (o : UnaryOp) (to a : ℕ) → Does w f (op.Unary o to a)
   unary-op o to a flag r m x =
       let g : FlatState = fetched (op.Unary o to a) f in
       fetches w h g a R13 (λ word. put w.ir to (unary o word)) x.tied x.small x.code
-      (λ word t s code. ones w h (with_traffic t g) o 0 s x.tied code
-      (λ k pc' flag' r' is code'. puts w h (with_traffic t g) to 13 (unary o word) x.tied code' refl (λ v. is) (λ v. forgot w _)))
+      (λ word t s code. ones w h (with_traffic t g) o 1 s x.tied code
+      (λ k pc' flag' r' is code'. puts w h (with_traffic t g) to 13 (unary o word) x.tied code' refl is (forgot w _)))
 
   pub binary-op : (o : BinaryOp) (to a b : ℕ) → Does w f (op.Binary o to a b)
   binary-op o to a b flag r m x =
@@ -290,9 +287,8 @@ module _ (w : World) (h : Fits w) (f : FlatState) where
       let g : FlatState = fetched (op.Load to array index) f in
       fetches w h g index R13 (λ i. reading w.loose w.ir array i (put w.ir to)) x.tied x.small x.code
       (λ i t s code. indexes w h (with_traffic t g) (w.home array) i refl x.tied code
-      (λ code'. reads w h (with_traffic t g) array i (displaced (wrapped (upper (w.home array) * 2 ^ 16 + wrapped (i * 4))) (lower (w.home array))) R13 (put w.ir to) x.tied x.small code' refl
-      (element-at w h array i)
-      (λ word t' s' code''. puts w h (with_traffic t' g) to 13 word x.tied code'' refl (λ v. refl) (λ v. forgot w _))))
+      (λ code'. reads w h (with_traffic t g) array i _ R13 (put w.ir to) x.tied x.small code' refl (element-at w h array i _)
+      (λ word t' s' code''. puts w h (with_traffic t' g) to 13 word x.tied code'' refl refl (forgot w _))))
 
   pub store : (array index from : ℕ) → Does w f (op.Store array index from)
   store array index from flag r m x =
@@ -300,8 +296,7 @@ module _ (w : World) (h : Fits w) (f : FlatState) where
       fetches w h g index R13 (λ i. reading w.loose w.ir from 0 (λ word. writing w.ir array i word (λ y. Goes y))) x.tied x.small x.code
       (λ i t s code. fetches w h (with_traffic t g) from R14 (λ word. writing w.ir array i word (λ y. Goes y)) x.tied x.small code
       (λ word t' s' code'. indexes w h (with_traffic t' g) (w.home array) i refl x.tied code'
-      (λ code''. writes-cell w h (with_traffic t' g) array i (displaced (wrapped (upper (w.home array) * 2 ^ 16 + wrapped (i * 4))) (lower (w.home array))) word (λ y. Goes y) x.tied code'' refl
-      (element-at w h array i)
+      (λ code''. writes-cell w h (with_traffic t' g) array i _ word (λ y. Goes y) x.tied code'' refl (element-at w h array i _)
       (λ m' tied' last. lands w (written w.ir array i word (with_traffic t' g)) last refl tied' (forgot w _)))))
 
   pub label : (l : ℕ) → Does w f (op.Label l)
@@ -315,7 +310,7 @@ module _ (w : World) (h : Fits w) (f : FlatState) where
       let g : FlatState = fetched (op.JumpZero a l) f in
       fetches w h g a R13 (λ word. pick (word == 0) (jumping w.ir l) (λ y. Goes y)) x.tied x.small x.code
       (λ word t s code. compares w h (with_traffic t g) (word == 0) x.tied code (ap (λ (b : Bool). effect.Compare b) (truth-test (word == 0)))
-      (λ code'. branches w h (with_traffic t g) (word == 0) l (offset_of w.ir.ops f.place + 3) x.tied code' refl (omega arith) (forgot w _)))
+      (λ code'. branches w h (with_traffic t g) (word == 0) l (offset_of w.ir.ops f.place + 2) x.tied code' refl (omega arith) (forgot w _)))
 
   pub set-result : (from : ℕ) → Does w f (op.SetResult from)
   set-result from flag r m x =
@@ -328,7 +323,7 @@ module _ (w : World) (h : Fits w) (f : FlatState) where
   input to flag r m x =
       let g : FlatState = fetched (op.Input to) f in
       inputs w h g x.tied x.code
-      (λ code. puts w h (with_traffic (after_input f.traffic) g) to 11 (input_word f.traffic) x.tied code refl (λ v. refl) (λ v. forgot w _))
+      (λ code. puts w h (with_traffic (after_input f.traffic) g) to 11 (input_word f.traffic) x.tied code refl refl (forgot w _))
 
   pub release : (a : ℕ) → Does w f (op.Release a)
   release a flag r m x =
@@ -354,7 +349,7 @@ module _ (w : World) (h : Fits w) (f : FlatState) where
       let next : ℕ → Later = λ word. pick (nat_lt slot MAX_PARAMETERS) (λ y. Goes (record y { slots = filled y.slots slot word })) stuck in
       fetches w h g from s.name next x.tied x.small (subst (λ (n : ℕ). HasCode w (address_of w f.place) (read_into n (w.home from) []) (address_of w (f.place + 1))) (sym s.number) x.code)
       (λ word t bound code. onto (ap (λ (b : Bool). pick b (λ (y : FlatState). Goes (record y { slots = filled y.slots slot word })) stuck (with_traffic t g)) (sym few))
-      (lands w (record (with_traffic t g) { slots = filled f.slots slot word }) code refl x.tied (s.fills f.slots f.link f.result r _ word x.handed)))
+      (lands w (record (with_traffic t g) { slots = filled f.slots slot word }) code refl x.tied (s.fills f.slots f.link f.result r word x.handed)))
 
   pub param : (to slot : ℕ) → nat_lt slot MAX_PARAMETERS ≡ true → Does w f (op.Param to slot)
   param to slot few flag r m x = go (f.slots slot) refl
@@ -364,7 +359,7 @@ module _ (w : World) (h : Fits w) (f : FlatState) where
       go None is = record { comes = tt }
       go (Some word) is =
           puts w h (fetched (op.Param to slot) f) to (3 + slot) word x.tied x.code refl
-          (λ v. slot-has w f.slots f.link f.result r v slot word x.handed few is) (λ v. still w f.slots f.link f.result r v x.handed)
+          (slot-has w f.slots f.link f.result r slot word x.handed few is) x.handed
 
   pub result : (to : ℕ) → Does w f (op.Result to)
   result to flag r m x = go f.result refl
@@ -373,7 +368,7 @@ module _ (w : World) (h : Fits w) (f : FlatState) where
       go None is = record { comes = tt }
       go (Some word) is =
           puts w h (fetched (op.Result to) f) to 11 word x.tied x.code refl
-          (λ v. subst (λ (y : Option ℕ). Has y r.r11) is x.handed.result) (λ v. forgot w _)
+          (subst (λ (y : Option ℕ). Has y r.r11) is x.handed.result) (forgot w _)
 
   pub set-private : Does w f (op.SetMode true)
   set-private flag r m x = go f.private refl
@@ -421,62 +416,55 @@ module _ (w : World) (h : Fits w) (f : FlatState) where
             handed = record { slot_0 = x.handed.slot_0; slot_1 = x.handed.slot_1; slot_2 = x.handed.slot_2; slot_3 = x.handed.slot_3; slot_4 = x.handed.slot_4; slot_5 = x.handed.slot_5; link = next; result = x.handed.result };
           }))
 
-  home-at : (c : ℕ) → 0 < words_of w.ir c → displaced (upper (w.home c) * 2 ^ 16) (lower (w.home c)) ≡ w.home c + 4 * 0
-  home-at c below =
-      let far : w.home c + 4 * 0 < 2 ^ 31 = near w.layout (w.home c + 4 * 0) (class_of w.ir c) (h.in_class c 0 below) in
-      joined-alone (w.home c) (omega arith) ∙ omega arith
-
   pub save-link : (c : ℕ) → is_shared (class_of w.ir c) ≡ false → Does w f (op.SaveLink c)
   save-link c hidden flag r m x = go f.link refl
     where
       g : FlatState
       g = fetched (op.SaveLink c) f
 
-      kept : (place : ℕ) → f.link ≡ Some place → {pc : ℕ} → HasCode w pc (Sw (lower (w.home c)) 12 9 ∷ []) (address_of w (f.place + 1)) →
+      kept : (place : ℕ) → f.link ≡ Some place →
           (t : Bool) → nat_lt 0 (words_of w.ir c) ≡ t → (u : Bool) → rights (mode_of f.private) (class_of w.ir c) Write ≡ u → (l : Bool) → w.loose (class_of w.ir c) ≡ l →
-          Comes w false 1 (standing w pc flag (set R12 (upper (w.home c) * 2 ^ 16) r) g m)
+          Comes w true 2 (standing w (address_of w f.place) flag r g m)
           (pick (t && u) (pick l stuck (λ y. Goes (record y { cells = changed y.cells c 0 (Link place) }))) stuck g)
-      kept place is code false t u right l loose = record { comes = tt }
-      kept place is code true t false right l loose = record { comes = tt }
-      kept place is code true t true right true loose = record { comes = tt }
-      kept place is {pc} code true t true right false loose =
+      kept place is false t u right l loose = record { comes = tt }
+      kept place is true t false right l loose = record { comes = tt }
+      kept place is true t true right true loose = record { comes = tt }
+      kept place is true t true right false loose =
           let here : r.r9 ≡ address_of w place = subst (λ (y : Option ℕ). IfSome y (λ p. r.r9 ≡ address_of w p)) is x.handed.link in
           let below : 0 < words_of w.ir c = lt-from 0 (words_of w.ir c) t in
-          keeps-link w h g false 0 pc (address_of w (f.place + 1)) flag (set R12 (upper (w.home c) * 2 ^ 16) r) m (Sw (lower (w.home c)) 12 9) [] c place x.tied code below
-          refl (displaced (upper (w.home c) * 2 ^ 16) (lower (w.home c))) (ap (λ (n : ℕ). effect.StoreWord (displaced (upper (w.home c) * 2 ^ 16) (lower (w.home c))) n) here)
-          (home-at c below) right hidden refl (still w f.slots None f.result r _ (unlinked w f.slots f.link f.result r x.handed))
+          keeps-link w h g true 1 (address_of w f.place) (address_of w (f.place + 1)) flag r m (Sw (lower (w.home c)) (base (w.home c)) 9) [] c place x.tied x.code below
+          refl (displaced (slice_index (listed r) (base (w.home c))) (lower (w.home c)))
+          (ap (λ (n : ℕ). effect.StoreWord (displaced (slice_index (listed r) (base (w.home c))) (lower (w.home c))) n) here)
+          (at-home w h c r below) right hidden refl (unlinked w f.slots f.link f.result r x.handed)
 
       go : (found : Option ℕ) → f.link ≡ found → Comes w true 2 (standing w (address_of w f.place) flag r f m) (with_given found (keeping_link w.loose w.ir c) g)
       go None is = record { comes = tt }
       go (Some place) is =
-          writes w h g R12 (upper (w.home c) * 2 ^ 16) x.tied x.code refl
-          (λ code. kept place is code (nat_lt 0 (words_of w.ir c)) refl (rights (mode_of f.private) (class_of w.ir c) Write) refl (w.loose (class_of w.ir c)) refl)
+          kept place is (nat_lt 0 (words_of w.ir c)) refl (rights (mode_of f.private) (class_of w.ir c) Write) refl (w.loose (class_of w.ir c)) refl
 
   pub return : (c : ℕ) → Does w f (op.Return c)
   return c flag r m x =
-      writes w h g R12 (upper (w.home c) * 2 ^ 16) x.tied x.code refl
-      (λ code. onto (applied (nat_lt 0 (words_of w.ir c) && rights (mode_of f.private) (class_of w.ir c) Read) (w.loose (class_of w.ir c)) (λ y. with_link (f.cells c 0) going y) (λ y. with_link (y.cells c 0) going y) g refl)
-      (read code (nat_lt 0 (words_of w.ir c)) refl (rights (mode_of f.private) (class_of w.ir c) Read) refl (w.loose (class_of w.ir c)) refl (f.cells c 0) refl))
+      onto (applied (nat_lt 0 (words_of w.ir c) && rights (mode_of f.private) (class_of w.ir c) Read) (w.loose (class_of w.ir c)) (λ y. with_link (f.cells c 0) going y) (λ y. with_link (y.cells c 0) going y) g refl)
+      (read (nat_lt 0 (words_of w.ir c)) refl (rights (mode_of f.private) (class_of w.ir c) Read) refl (w.loose (class_of w.ir c)) refl (f.cells c 0) refl)
     where
       g : FlatState
       g = fetched (op.Return c) f
 
-      read : {pc : ℕ} → HasCode w pc (Lwz 9 (lower (w.home c)) 12 ∷ Jr 9 ∷ []) (address_of w (f.place + 1)) →
-          (t : Bool) → nat_lt 0 (words_of w.ir c) ≡ t → (u : Bool) → rights (mode_of f.private) (class_of w.ir c) Read ≡ u → (l : Bool) → w.loose (class_of w.ir c) ≡ l → (held : Held) → f.cells c 0 ≡ held →
-          Comes w false 2 (standing w pc flag (set R12 (upper (w.home c) * 2 ^ 16) r) g m) (pick (t && u) (pick l stuck (λ y. with_link held going y)) stuck g)
-      read code false t u right l loose held is = record { comes = tt }
-      read code true t false right l loose held is = record { comes = tt }
-      read code true t true right true loose held is = record { comes = tt }
-      read code true t true right false loose (Word word) is = record { comes = tt }
-      read {pc} code true t true right false loose (Link place) is =
+      read : (t : Bool) → nat_lt 0 (words_of w.ir c) ≡ t → (u : Bool) → rights (mode_of f.private) (class_of w.ir c) Read ≡ u → (l : Bool) → w.loose (class_of w.ir c) ≡ l → (held : Held) → f.cells c 0 ≡ held →
+          Comes w true 3 (standing w (address_of w f.place) flag r g m) (pick (t && u) (pick l stuck (λ y. with_link held going y)) stuck g)
+      read false t u right l loose held is = record { comes = tt }
+      read true t false right l loose held is = record { comes = tt }
+      read true t true right true loose held is = record { comes = tt }
+      read true t true right false loose (Word word) is = record { comes = tt }
+      read true t true right false loose (Link place) is =
           let below : 0 < words_of w.ir c = lt-from 0 (words_of w.ir c) t in
-          reads-link w h g false 1 pc (address_of w (f.place + 1)) flag (set R12 (upper (w.home c) * 2 ^ 16) r) m (Lwz 9 (lower (w.home c)) 12) (Jr 9 ∷ []) c place x.tied code below
-          (displaced (upper (w.home c) * 2 ^ 16) (lower (w.home c))) _ refl (home-at c below) right loose is
+          reads-link w h g true 2 (address_of w f.place) (address_of w (f.place + 1)) flag r m (Lwz 9 (lower (w.home c)) (base (w.home c))) (Jr 9 ∷ []) c place x.tied x.code below
+          (displaced (slice_index (listed r) (base (w.home c))) (lower (w.home c))) _ refl (at-home w h c r below) right loose is
           (λ code'. jumps w h g (address_of w place) x.tied code' refl
-          (stays w 0 (standing w (address_of w place) flag (set R9 (address_of w place) (set R12 (upper (w.home c) * 2 ^ 16) r)) g m) (record g { place = place; jumps = f.jumps + 1 })
+          (stays w 1 (standing w (address_of w place) flag (set R9 (address_of w place) r) g m) (record g { place = place; jumps = f.jumps + 1 })
           (record {
             flag = flag;
-            registers = set R9 (address_of w place) (set R12 (upper (w.home c) * 2 ^ 16) r);
+            registers = set R9 (address_of w place) r;
             memory = m;
             is = refl;
             tied = x.tied;

@@ -1,5 +1,5 @@
 -- What the parts of the code of an operation do.
-use Rattle.std.proofs.Common.{◌≡◌, ℕ, zero, suc, ◌+◌, ◌-◌, ◌*◌, ◌/◌, ◌^◌, ◌<◌, ◌≤◌, Bool, true, false, cond, nat_le, List, [], ◌∷◌, Option, Some, None, arith, refl, ◌∙◌, ap}
+use Rattle.std.proofs.Common.{◌≡◌, ℕ, zero, suc, ◌+◌, ◌-◌, ◌*◌, ◌/◌, ◌^◌, ◌<◌, ◌≤◌, Bool, true, false, cond, nat_le, List, [], ◌∷◌, Option, Some, None, arith, refl, ◌∙◌, ap, subst}
 use Rattle.std.proofs.lemmas.Bool.{leb-true, leb-false}
 use Rattle.std.proofs.lemmas.Bool.Decides.{nat_tests}
 use Rattle.std.specs.Prelude.{pos, negsuc, neg_ℤ, ◌*ℤ◌, slice_index}
@@ -21,9 +21,9 @@ use Rattle.orbis_core.specs.Ideal.{Ideal, IdealEnd}
 use Rattle.ir_code.specs.FlatStates as flat
 use Rattle.ir_code.specs.FlatStates.{Held, Word, FlatState, FlatEnd, Step, Later, pick, with_traffic, words_of, class_of, changed, label_place}
 use Rattle.ir_code.specs.FlatMeaning.{reading, written, writing, put, jumping, going, with_given}
-use Rattle.codegen.specs.OpInstructions.{upper, lower, read_into, keep, number, indexed, flagged, distance, trapped}
+use Rattle.codegen.specs.OpInstructions.{base, upper, lower, read_into, keep, number, indexed, flagged, distance, trapped}
 use Rattle.codegen.specs.ImageCode.{offset_found, offset_of}
-use Rattle.codegen.proofs.Registers.{Registers, listed, Name, R3, R12, R13, R14, number_of, set}
+use Rattle.codegen.proofs.Registers.{Registers, listed, Name, R3, R12, R13, R14, number_of, set, IsPart, OfShared, OfData, OfLogged, has-part}
 use Rattle.codegen.proofs.Comes.{World, Fits, HasCode, first-stands, rest-stands, sites, core_at, standing, Tied, Handed, Comes, ComesTo, Ends, stays, address_of}
 use Rattle.codegen.proofs.Rules.{below-code, writes, proceeds, jumps, reads, writes-cell, index-traps, divide-traps}
 
@@ -46,6 +46,33 @@ joined a x small = grind (arith, nat_tests)
 
 pub joined-alone : (a : ℕ) → a < 2 ^ 31 → displaced (upper a * 2 ^ 16) (lower a) ≡ a
 joined-alone a small = grind (arith, nat_tests)
+
+-- the upper part of an address of a class
+part-of : (layout : Layout) (at : ℕ) (class : Class) → class_at layout at ≡ Some class → (class ≡ Open → 0x8000 ≤ at) → IsPart (upper at)
+part-of layout at class is above = go class is above layout.data_fits layout.log_fits
+  where
+    data-at : 0x10000000 ≤ at → at < 0x10000000 + 64 * 6561 → IsPart (upper at)
+    data-at low high = OfData (upper at - 0x1000) (omega (arith, low, high)) (omega (arith, low, high))
+
+    go : (class : Class) → class_at layout at ≡ Some class → (class ≡ Open → 0x8000 ≤ at) → layout.verified + layout.private + layout.constants + layout.code ≤ 6561 → layout.log ≤ 1024 → IsPart (upper at)
+    go Open is above most log = let lies : LiesIn layout Open at = LiesIn-class_at layout at Open is in OfShared (omega (arith, lies, above refl))
+    go Verified is above most log = let lies : LiesIn layout Verified at = LiesIn-class_at layout at Verified is in data-at (omega (arith, lies)) (omega (arith, lies))
+    go Private is above most log = let lies : LiesIn layout Private at = LiesIn-class_at layout at Private is in data-at (omega (arith, lies)) (omega (arith, lies))
+    go Constant is above most log = let lies : LiesIn layout Constant at = LiesIn-class_at layout at Constant is in data-at (omega (arith, lies)) (omega (arith, lies))
+    go Code is above most log = let lies : LiesIn layout Code at = LiesIn-class_at layout at Code is in data-at (omega (arith, lies)) (omega (arith, lies))
+    go Logged is above most log = let lies : LiesIn layout Logged at = LiesIn-class_at layout at Logged is in OfLogged (upper at - 0x2000) (omega (arith, lies)) (omega (arith, lies))
+
+-- a cell of which there are words lies where a register has the upper part
+module _ (w : World) (h : Fits w) (c : ℕ) (r : Registers) (below : 0 < words_of w.ir c) where
+  pub based : slice_index (listed r) (base (w.home c)) ≡ upper (w.home c) * 2 ^ 16
+  based =
+      let start : w.home c + 4 * 0 ≡ w.home c = omega arith in
+      has-part r (upper (w.home c)) (subst (λ (at : ℕ). IsPart (upper at)) start (part-of w.layout (w.home c + 4 * 0) (class_of w.ir c) (h.in_class c 0 below) (λ is. omega (arith, h.shared c is))))
+
+  pub at-home : displaced (slice_index (listed r) (base (w.home c))) (lower (w.home c)) ≡ w.home c + 4 * 0
+  at-home =
+      let far : w.home c + 4 * 0 < 2 ^ 31 = near w.layout (w.home c + 4 * 0) (class_of w.ir c) (h.in_class c 0 below) in
+      ap (λ (x : ℕ). displaced x (lower (w.home c))) based ∙ joined-alone (w.home c) (omega (arith, far)) ∙ omega arith
 
 -- from one instruction to another
 pub reached : (start from to : ℕ) → start + 4 * from < 2 ^ 31 → start + 4 * to < 2 ^ 31 → displaced (start + 4 * from) (distance from to *ℤ pos 4) ≡ start + 4 * to
@@ -86,33 +113,25 @@ fewer w lo hi s next h = record { comes = go next h.comes }
 module _ (w : World) (h : Fits w) (f : FlatState) {lo : Bool} {hi pc to : ℕ} {flag : Bool} {r : Registers} {m : ℕ → ℕ} {rest : List Instr} where
   -- the word of a cell comes into a register
   pub fetches : (c : ℕ) (d : Name) (next : ℕ → Later) → Tied w f.cells m → ((a : ℕ) → m a < 2 ^ 32) → HasCode w pc (read_into (number_of d) (w.home c) rest) to →
-      ((word : ℕ) (t : Traffic Element) → word < 2 ^ 32 → HasCode w (pc + 4 + 4) rest to →
-      Comes w false hi (standing w (pc + 4 + 4) flag (set d word (set R12 (upper (w.home c) * 2 ^ 16) r)) (with_traffic t f) m) (next word (with_traffic t f))) →
-      Comes w lo (suc (suc hi)) (standing w pc flag r f m) (reading w.loose w.ir c 0 next f)
+      ((word : ℕ) (t : Traffic Element) → word < 2 ^ 32 → HasCode w (pc + 4) rest to → Comes w false hi (standing w (pc + 4) flag (set d word r) (with_traffic t f) m) (next word (with_traffic t f))) →
+      Comes w lo (suc hi) (standing w pc flag r f m) (reading w.loose w.ir c 0 next f)
   fetches c d next tied small code after =
-      writes w h f R12 (upper (w.home c) * 2 ^ 16) tied code refl
-      (λ code'. reads w h f c 0 (displaced (upper (w.home c) * 2 ^ 16) (lower (w.home c))) d next tied small code' refl
-      (λ below. let far : w.home c + 4 * 0 < 2 ^ 31 = near w.layout (w.home c + 4 * 0) (class_of w.ir c) (h.in_class c 0 below) in
-      joined-alone (w.home c) (omega arith) ∙ omega arith) after)
+      reads w h f c 0 (displaced (slice_index (listed r) (base (w.home c))) (lower (w.home c))) d next tied small code refl (λ below. at-home w h c r below) after
 
   -- the word of a register is put into a cell
-  pub keeps : (c n word : ℕ) (next : Later) → Tied w f.cells m → HasCode w pc (keep (w.home c) n rest) to → ((v : ℕ) → slice_index (listed (set R12 v r)) n ≡ word) →
-      ((m' : ℕ → ℕ) → Tied w (changed f.cells c 0 (Word word)) m' → HasCode w (pc + 4 + 4) rest to →
-      Comes w false hi (standing w (pc + 4 + 4) flag (set R12 (upper (w.home c) * 2 ^ 16) r) (written w.ir c 0 word f) m') (next (written w.ir c 0 word f))) →
-      Comes w lo (suc (suc hi)) (standing w pc flag r f m) (writing w.ir c 0 word next f)
+  pub keeps : (c n word : ℕ) (next : Later) → Tied w f.cells m → HasCode w pc (keep (w.home c) n rest) to → slice_index (listed r) n ≡ word →
+      ((m' : ℕ → ℕ) → Tied w (changed f.cells c 0 (Word word)) m' → HasCode w (pc + 4) rest to →
+      Comes w false hi (standing w (pc + 4) flag r (written w.ir c 0 word f) m') (next (written w.ir c 0 word f))) →
+      Comes w lo (suc hi) (standing w pc flag r f m) (writing w.ir c 0 word next f)
   keeps c n word next tied code has after =
-      writes w h f R12 (upper (w.home c) * 2 ^ 16) tied code refl
-      (λ code'. writes-cell w h f c 0 (displaced (upper (w.home c) * 2 ^ 16) (lower (w.home c))) word next tied code'
-      (ap (λ (x : ℕ). effect.StoreWord (displaced (upper (w.home c) * 2 ^ 16) (lower (w.home c))) x) (has (upper (w.home c) * 2 ^ 16)))
-      (λ below. let far : w.home c + 4 * 0 < 2 ^ 31 = near w.layout (w.home c + 4 * 0) (class_of w.ir c) (h.in_class c 0 below) in
-      joined-alone (w.home c) (omega arith) ∙ omega arith) after)
+      writes-cell w h f c 0 (displaced (slice_index (listed r) (base (w.home c))) (lower (w.home c))) word next tied code
+      (ap (λ (x : ℕ). effect.StoreWord (displaced (slice_index (listed r) (base (w.home c))) (lower (w.home c))) x) has) (λ below. at-home w h c r below) after
 
 -- as the last thing of an operation
 module _ (w : World) (h : Fits w) (f : FlatState) {lo : Bool} {hi pc to : ℕ} {flag : Bool} {r : Registers} {m : ℕ → ℕ} where
-  pub puts : (c n word : ℕ) → Tied w f.cells m → HasCode w pc (keep (w.home c) n []) to → to ≡ address_of w f.place → ((v : ℕ) → slice_index (listed (set R12 v r)) n ≡ word) →
-      ((v : ℕ) → Handed w f.slots f.link f.result (set R12 v r)) → Comes w lo (suc (suc hi)) (standing w pc flag r f m) (put w.ir c word f)
-  puts c n word tied code there has handed =
-      keeps w h f c n word (λ g. Goes g) tied code has (λ m' tied' code'. lands w (written w.ir c 0 word f) code' there tied' (handed (upper (w.home c) * 2 ^ 16)))
+  pub puts : (c n word : ℕ) → Tied w f.cells m → HasCode w pc (keep (w.home c) n []) to → to ≡ address_of w f.place → slice_index (listed r) n ≡ word → Handed w f.slots f.link f.result r →
+      Comes w lo (suc hi) (standing w pc flag r f m) (put w.ir c word f)
+  puts c n word tied code there has handed = keeps w h f c n word (λ g. Goes g) tied code has (λ m' tied' code'. lands w (written w.ir c 0 word f) code' there tied' handed)
 
 module _ (w : World) (h : Fits w) (f : FlatState) {lo : Bool} {hi pc to : ℕ} {flag : Bool} {r : Registers} {m : ℕ → ℕ} {rest : List Instr} {next : Step} where
   -- a word comes into a register
@@ -133,13 +152,12 @@ module _ (w : World) (h : Fits w) (f : FlatState) {lo : Bool} {hi pc to : ℕ} {
 
   -- the upper part of an address and an index come into register 12
   pub indexes : (a i : ℕ) → r.r13 ≡ i → Tied w f.cells m → HasCode w pc (indexed a rest) to →
-      (HasCode w (pc + 4 + 4 + 4) rest to →
-      Comes w false hi (standing w (pc + 4 + 4 + 4) flag (set R12 (wrapped (upper a * 2 ^ 16 + wrapped (i * 4))) (set R13 (wrapped (i * 4)) r)) f m) next) →
-      Comes w lo (suc (suc (suc hi))) (standing w pc flag r f m) next
+      (HasCode w (pc + 4 + 4) rest to →
+      Comes w false hi (standing w (pc + 4 + 4) flag (set R12 (wrapped (slice_index (listed (set R13 (wrapped (i * 4)) r)) (base a) + wrapped (i * 4))) (set R13 (wrapped (i * 4)) r)) f m) next) →
+      Comes w lo (suc (suc hi)) (standing w pc flag r f m) next
   indexes a i is tied code after =
       writes w h f R13 (wrapped (i * 4)) tied code (ap (λ (x : ℕ). effect.Write 13 (wrapped (x * 4))) is)
-      (λ code'. writes w h f R12 (upper a * 2 ^ 16) tied code' refl
-      (λ code''. writes w h f R12 (wrapped (upper a * 2 ^ 16 + wrapped (i * 4))) tied code'' refl after))
+      (λ code'. writes w h f R12 (wrapped (slice_index (listed (set R13 (wrapped (i * 4)) r)) (base a) + wrapped (i * 4))) tied code' refl after)
 
 -- the last of an instruction's successors is in range
 after-code : (w : World) (pc : ℕ) (i : Instr) (is : List Instr) (to : ℕ) → HasCode w pc (i ∷ is) to → pc + 4 < 2 ^ 32

@@ -49,8 +49,8 @@ two-size on.GeU xs ys e = ap (λ (n : ℕ). suc (suc (suc (suc n)))) e
 pub size-is : (at : Sites) (n : ℕ) (o : Op) → length (instructions_of at n o) ≡ size_of o
 size-is at n (op.Const to value) = refl
 size-is at n (op.Copy to from) = refl
-size-is at n (op.Unary o to a) = ap (λ (k : ℕ). suc (suc k)) (one-size o _ _ refl)
-size-is at n (op.Binary o to a b) = ap (λ (k : ℕ). suc (suc (suc (suc k)))) (two-size o _ _ refl)
+size-is at n (op.Unary o to a) = ap suc (one-size o _ _ refl)
+size-is at n (op.Binary o to a b) = ap (λ (k : ℕ). suc (suc k)) (two-size o _ _ refl)
 size-is at n (op.Test a length token) = refl
 size-is at n (op.NonZero a token) = refl
 size-is at n (op.Load to array index) = refl

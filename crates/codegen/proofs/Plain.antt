@@ -35,8 +35,8 @@ use Rattle.ir_code.specs.Lawful.{IsLawful}
 use Rattle.image_file.specs.declared.Image.{Image}
 use Rattle.image_file.specs.ImageTable.{static_bytes, HoldsWords}
 use Rattle.region_plan.specs.Homes.{home_address}
-use Rattle.codegen.specs.OpInstructions.{Sites, instructions_of}
-use Rattle.codegen.specs.ImageCode.{code_from, code_of, size_of, sites_of, code_blocks, code_size}
+use Rattle.codegen.specs.OpInstructions.{Sites, instructions_of, start_code}
+use Rattle.codegen.specs.ImageCode.{code_from, code_of, size_of, sites_of, code_blocks, code_size, offset_of, start_size}
 use Rattle.codegen.specs.EmittedImage.{IsImageOf, HasFirstWords, MeansCode}
 use Rattle.codegen.specs.SoundImages.{ImagesAreSound}
 use Rattle.codegen.proofs.Imaging.{means, static-code, code-whole}
@@ -114,6 +114,9 @@ plain-op at n op.Exit = refl
 plain-code : (at : Sites) (n : ℕ) (ops : List Op) → plain (code_from at n ops) ≡ true
 plain-code at n [] = refl
 plain-code at n (o ∷ ops) = plain-join (instructions_of at n o) (code_from at (n + size_of o) ops) (plain-op at n o) (plain-code at (n + size_of o) ops)
+
+plain-start : (n entry : ℕ) → plain (start_code n entry) ≡ true
+plain-start n entry = refl
 
 plain-padding : (n : ℕ) → plain (replicate n (Nop 0)) ≡ true
 plain-padding zero = refl
@@ -216,8 +219,11 @@ module _ (ir : Ir) (image : Image) (lawful : IsLawful shared_and_logged_loose ir
 
   code-plain : plain (code_of (home_address image.layout ir) ir) ≡ true
   code-plain =
-      plain-join (code_from (sites_of (home_address image.layout ir) ir) 0 ir.ops) (replicate (16 * code_blocks ir - code_size ir.ops) (Nop 0))
-      (plain-code (sites_of (home_address image.layout ir) ir) 0 ir.ops) (plain-padding (16 * code_blocks ir - code_size ir.ops))
+      let start : List Instr = start_code (code_size ir.ops) (offset_of ir.ops ir.entry) in
+      plain-join (code_from (sites_of (home_address image.layout ir) ir) 0 ir.ops) (start ++ replicate (16 * code_blocks ir - (code_size ir.ops + start_size)) (Nop 0))
+      (plain-code (sites_of (home_address image.layout ir) ir) 0 ir.ops)
+      (plain-join start (replicate (16 * code_blocks ir - (code_size ir.ops + start_size)) (Nop 0))
+      (plain-start (code_size ir.ops) (offset_of ir.ops ir.entry)) (plain-padding (16 * code_blocks ir - (code_size ir.ops + start_size))))
 
   module _ (input : List ℕ) (words : List (Entry ℕ)) (steps : ℕ) (at : Ideal) (ran : ideal_run image.layout shared_and_logged_loose (static_bytes image) image.entry input words steps ≡ Goes at) where
     abbrev start : Ideal

@@ -1,7 +1,8 @@
--- The registers that code uses, by name.
-use Rattle.std.proofs.Common.{◌≡◌, ℕ, List, ◌∷◌, replicate, refl}
+-- The registers that code uses, by name. Those from 16 on have what the start puts there.
+use Rattle.std.proofs.Common.{◌≡◌, ℕ, zero, suc, ◌+◌, ◌*◌, ◌^◌, ◌<◌, List, [], ◌∷◌, arith, refl, subst, sym}
 use Rattle.orbis_core.specs.Processor.{registers_with}
 use Rattle.std.specs.Prelude.{slice_index}
+use Rattle.codegen.specs.OpInstructions.{base_for}
 
 pub record Registers : Type 0 where
   pub r1 : ℕ
@@ -19,11 +20,15 @@ pub record Registers : Type 0 where
   pub r13 : ℕ
   pub r14 : ℕ
   pub r15 : ℕ
-  pub others : List ℕ
+
+-- what the registers from 16 on have after the start
+abbrev pub parts : List ℕ
+parts =
+    0x10000000 ∷ 0x10010000 ∷ 0x10020000 ∷ 0x10030000 ∷ 0x10040000 ∷ 0x10050000 ∷ 0x10060000 ∷ 0x20000000 ∷ 0x20010000 ∷ 0x10000 ∷ 0 ∷ 0 ∷ 0 ∷ 0 ∷ 0 ∷ 0 ∷ []
 
 abbrev pub listed : Registers → List ℕ
 listed r =
-    0 ∷ r.r1 ∷ r.r2 ∷ r.r3 ∷ r.r4 ∷ r.r5 ∷ r.r6 ∷ r.r7 ∷ r.r8 ∷ r.r9 ∷ r.r10 ∷ r.r11 ∷ r.r12 ∷ r.r13 ∷ r.r14 ∷ r.r15 ∷ r.others
+    0 ∷ r.r1 ∷ r.r2 ∷ r.r3 ∷ r.r4 ∷ r.r5 ∷ r.r6 ∷ r.r7 ∷ r.r8 ∷ r.r9 ∷ r.r10 ∷ r.r11 ∷ r.r12 ∷ r.r13 ∷ r.r14 ∷ r.r15 ∷ parts
 
 -- those that code writes
 pub data Name : Type 0 where
@@ -110,9 +115,41 @@ write-named R13 word r = refl
 write-named R14 word r = refl
 write-named R15 word r = refl
 
--- before the first instruction
+-- after the start
 abbrev pub zeros : Registers
-zeros = record { r1 = 0; r2 = 0; r3 = 0; r4 = 0; r5 = 0; r6 = 0; r7 = 0; r8 = 0; r9 = 0; r10 = 0; r11 = 0; r12 = 0; r13 = 0; r14 = 0; r15 = 0; others = replicate 16 0 }
+zeros = record { r1 = 0; r2 = 0; r3 = 0; r4 = 0; r5 = 0; r6 = 0; r7 = 0; r8 = 0; r9 = 0; r10 = 0; r11 = 0; r12 = 0; r13 = 0; r14 = 0; r15 = 0 }
 
-pub zeros-listed : replicate 32 0 ≡ listed zeros
-zeros-listed = refl
+-- ---- upper parts of addresses
+
+-- the upper parts that addresses of cells may have
+pub data IsPart (part : ℕ) : Type 0 where
+  OfShared : part ≡ 1 → IsPart part
+  OfData : (k : ℕ) → k < 7 → part ≡ 0x1000 + k → IsPart part
+  OfLogged : (k : ℕ) → k < 2 → part ≡ 0x2000 + k → IsPart part
+
+abbrev Has : Registers → ℕ → Type 0
+Has r part = slice_index (listed r) (base_for part) ≡ part * 2 ^ 16
+
+shared-part : (r : Registers) → Has r 1
+shared-part r = refl
+
+data-part : (r : Registers) (k : ℕ) → k < 7 → Has r (0x1000 + k)
+data-part r zero few = refl
+data-part r (suc zero) few = refl
+data-part r (suc (suc zero)) few = refl
+data-part r (suc (suc (suc zero))) few = refl
+data-part r (suc (suc (suc (suc zero)))) few = refl
+data-part r (suc (suc (suc (suc (suc zero))))) few = refl
+data-part r (suc (suc (suc (suc (suc (suc zero)))))) few = refl
+data-part r (suc (suc (suc (suc (suc (suc (suc k))))))) few = absurd (omega (arith, few))
+
+logged-part : (r : Registers) (k : ℕ) → k < 2 → Has r (0x2000 + k)
+logged-part r zero few = refl
+logged-part r (suc zero) few = refl
+logged-part r (suc (suc k)) few = absurd (omega (arith, few))
+
+-- the register of an upper part has it, shifted
+pub has-part : (r : Registers) (part : ℕ) → IsPart part → slice_index (listed r) (base_for part) ≡ part * 2 ^ 16
+has-part r part (OfShared is) = subst (λ (n : ℕ). Has r n) (sym is) (shared-part r)
+has-part r part (OfData k few is) = subst (λ (n : ℕ). Has r n) (sym is) (data-part r k few)
+has-part r part (OfLogged k few is) = subst (λ (n : ℕ). Has r n) (sym is) (logged-part r k few)

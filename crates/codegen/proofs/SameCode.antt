@@ -91,8 +91,8 @@ module _ (ir : Ir) (at bt : Sites) (homes : (c : ℕ) → c < length ir.cells �
   same-op n (op.Label l) ops names = refl
   same-op n (op.Jump l) ops names = ap (λ (m : ℕ). J (distance n m) ∷ []) (labels l)
   same-op n (op.JumpZero a l) ops names =
-      ap (λ (h : ℕ). read_into 13 h (Sfeq 13 0 ∷ Bf (distance (n + 3) (at.label l)) ∷ [])) (front a _ names.read_fit)
-      ∙ ap (λ (m : ℕ). read_into 13 (bt.home a) (Sfeq 13 0 ∷ Bf (distance (n + 3) m) ∷ [])) (labels l)
+      ap (λ (h : ℕ). read_into 13 h (Sfeq 13 0 ∷ Bf (distance (n + 2) (at.label l)) ∷ [])) (front a _ names.read_fit)
+      ∙ ap (λ (m : ℕ). read_into 13 (bt.home a) (Sfeq 13 0 ∷ Bf (distance (n + 2) m) ∷ [])) (labels l)
   same-op n (op.Arg slot from) ops names = ap (λ (h : ℕ). read_into (3 + slot) h []) (front from _ names.read_fit)
   same-op n (op.Param to slot) ops names = ap (λ (h : ℕ). keep h (3 + slot) []) (front to _ names.written_fit)
   same-op n (op.Call l) ops names = ap (λ (m : ℕ). Jal (distance n m) ∷ []) (labels l)

@@ -1,9 +1,9 @@
 -- How many instructions operations have.
-use Rattle.std.proofs.Common.{true, false, lit≤}
+use Rattle.std.proofs.Common.{true, false, lit≤, refl}
 use Rattle.aegis_num.specs.declared.UnaryOp.TheVariants.{Neg, Inv, Not}
 use Rattle.aegis_num.specs.declared.BinaryOp.TheVariants as on
 use Rattle.ir_code.specs.declared.Op.TheVariants as op
-use Rattle.codegen.specs.SoundImages.{SizesFitWeights}
+use Rattle.codegen.specs.SoundImages.{SizesFitWeights, StartFitsWeight}
 
 pub sizes-fit-weights : SizesFitWeights
 sizes-fit-weights (op.Const to value) = lit≤ tt
@@ -55,3 +55,6 @@ sizes-fit-weights op.Suspend = lit≤ tt
 sizes-fit-weights (op.SetMode true) = lit≤ tt
 sizes-fit-weights (op.SetMode false) = lit≤ tt
 sizes-fit-weights op.Exit = lit≤ tt
+
+pub start-fits-weight : StartFitsWeight
+start-fits-weight = record { size = λ n entry. refl; weight = refl }

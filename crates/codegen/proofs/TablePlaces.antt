@@ -1,5 +1,5 @@
 -- The tables of a writer agree with where things are.
-use Rattle.std.proofs.Common.{◌≡◌, ℕ, zero, suc, ◌*◌, ◌^◌, ◌<◌, ◌≤◌, true, List, [], ◌∷◌, length, get_or, Option, Some, ◌⊎◌, inl, inr, refl, sym, ap, ◌∙◌, arith, map, replicate, ◌-◌, ◌++◌, length-append}
+use Rattle.std.proofs.Common.{◌≡◌, ℕ, zero, suc, ◌+◌, ◌*◌, ◌^◌, ◌<◌, ◌≤◌, true, List, [], ◌∷◌, length, get_or, Option, Some, ◌⊎◌, inl, inr, refl, sym, ap, ◌∙◌, arith, map, replicate, ◌-◌, ◌++◌, length-append}
 use Rattle.std.proofs.lemmas.List.{length-map, length-replicate}
 use Rattle.orbis_word.specs.Reading.{instruction_in}
 use Rattle.orbis_word.specs.declared.Instr.{Instr}
@@ -14,8 +14,8 @@ use Rattle.ir_code.specs.Lawful.{HasForm, all_hold, is_data}
 use Rattle.region_plan.specs.Homes.{HasSizes, HasHomes, home_address}
 use Rattle.region_plan.proofs.HomeLaws.{home-low}
 use Rattle.codegen.specs.declared.sites.LabelTable.{LabelTable}
-use Rattle.codegen.specs.OpInstructions.{Sites}
-use Rattle.codegen.specs.ImageCode.{code_size, code_from, code_blocks, code_of, sites_of}
+use Rattle.codegen.specs.OpInstructions.{Sites, start_code}
+use Rattle.codegen.specs.ImageCode.{code_size, code_from, code_blocks, code_of, offset_of, sites_of, start_size}
 use Rattle.codegen.specs.Numbers.{number_in, sites_in, label_number, AreLow}
 use Rattle.codegen.proofs.CodeSizes.{length-code_from}
 use Rattle.codegen.proofs.LabelNumbers.{number-is_offset, number-le}
@@ -59,26 +59,31 @@ placed-code layout ir homes table form has known =
 length-same : (code : List ℕ) (is : List Instr) → map instruction_in code ≡ map Some is → length code ≡ length is
 length-same code is e = sym (length-map code instruction_in) ∙ ap length e ∙ length-map is Some
 
-pub length-words : (code : List ℕ) (at : Sites) (ops : List Op) (size words : ℕ) → size ≡ code_size ops → size ≤ words →
-    map instruction_in code ≡ map Some (code_from at 0 ops ++ replicate (words - size) (Nop 0)) → length code ≡ words
-length-words code at ops size words sized room e =
+pub length-words : (code : List ℕ) (at : Sites) (ops : List Op) (size entry words : ℕ) → size ≡ code_size ops → size + start_size ≤ words →
+    map instruction_in code ≡ map Some (code_from at 0 ops ++ (start_code size entry ++ replicate (words - (size + start_size)) (Nop 0))) → length code ≡ words
+length-words code at ops size entry words sized room e =
+    let start : length (start_code size entry) ≡ start_size = refl in
     omega (
       arith,
-      length-same code (code_from at 0 ops ++ replicate (words - size) (Nop 0)) e,
-      length-append (code_from at 0 ops) (replicate (words - size) (Nop 0)),
+      length-same code (code_from at 0 ops ++ (start_code size entry ++ replicate (words - (size + start_size)) (Nop 0))) e,
+      length-append (code_from at 0 ops) (start_code size entry ++ replicate (words - (size + start_size)) (Nop 0)),
+      length-append (start_code size entry) (replicate (words - (size + start_size)) (Nop 0)),
+      start,
       length-code_from at 0 ops,
-      length-replicate (words - size) (Nop 0),
+      length-replicate (words - (size + start_size)) (Nop 0),
       sized,
       room,
     )
 
-pub placed-words : (layout : Layout) (ir : Ir) (homes : List ℕ) (table : LabelTable) (ops : List Op) (size : ℕ) (code : List ℕ) → HasForm ir → HasHomes layout ir homes →
-    ((l : ℕ) → get nat_eq table.numbers l ≡ label_number 0 ir.ops l) → ops ≡ ir.ops → size ≡ code_size ir.ops → layout.code ≡ code_blocks ir →
-    map instruction_in code ≡ map Some (code_from (sites_in homes table) 0 ops ++ replicate (16 * layout.code - size) (Nop 0)) →
+pub placed-words : (layout : Layout) (ir : Ir) (homes : List ℕ) (table : LabelTable) (ops : List Op) (size entry : ℕ) (code : List ℕ) → HasForm ir → HasHomes layout ir homes →
+    ((l : ℕ) → get nat_eq table.numbers l ≡ label_number 0 ir.ops l) → ops ≡ ir.ops → size ≡ code_size ir.ops → entry ≡ offset_of ir.ops ir.entry → layout.code ≡ code_blocks ir →
+    map instruction_in code ≡ map Some (code_from (sites_in homes table) 0 ops ++ (start_code size entry ++ replicate (16 * layout.code - (size + start_size)) (Nop 0))) →
     map instruction_in code ≡ map Some (code_of (home_address layout ir) ir)
-placed-words layout ir homes table ops size code form has known same sized blocks e =
+placed-words layout ir homes table ops size entry code form has known same sized begins blocks e =
     e
-    ∙ ap (λ (ops : List Op). map Some (code_from (sites_in homes table) 0 ops ++ replicate (16 * layout.code - size) (Nop 0))) same
-    ∙ ap (λ (is : List Instr). map Some (is ++ replicate (16 * layout.code - size) (Nop 0))) (placed-code layout ir homes table form has known)
-    ∙ ap (λ (n : ℕ). map Some (code_from (sites_of (home_address layout ir) ir) 0 ir.ops ++ replicate n (Nop 0)))
-    (ap (λ (m : ℕ). 16 * m - size) blocks ∙ ap (λ (m : ℕ). 16 * code_blocks ir - m) sized)
+    ∙ ap (λ (ops : List Op). map Some (code_from (sites_in homes table) 0 ops ++ (start_code size entry ++ replicate (16 * layout.code - (size + start_size)) (Nop 0)))) same
+    ∙ ap (λ (is : List Instr). map Some (is ++ (start_code size entry ++ replicate (16 * layout.code - (size + start_size)) (Nop 0)))) (placed-code layout ir homes table form has known)
+    ∙ ap (λ (n : ℕ). map Some (code_from (sites_of (home_address layout ir) ir) 0 ir.ops ++ (start_code n entry ++ replicate (16 * layout.code - (n + start_size)) (Nop 0)))) sized
+    ∙ ap (λ (n : ℕ). map Some (code_from (sites_of (home_address layout ir) ir) 0 ir.ops ++ (start_code (code_size ir.ops) n ++ replicate (16 * layout.code - (code_size ir.ops + start_size)) (Nop 0)))) begins
+    ∙ ap (λ (m : ℕ). map Some (code_from (sites_of (home_address layout ir) ir) 0 ir.ops
+    ++ (start_code (code_size ir.ops) (offset_of ir.ops ir.entry) ++ replicate (16 * m - (code_size ir.ops + start_size)) (Nop 0)))) blocks

@@ -8,7 +8,7 @@ use Rattle.ir_code.specs.declared.Ir.{Ir}
 use Rattle.ir_code.specs.declared.Op.{Op}
 use Rattle.ir_code.specs.FlatStates.{label_place}
 use Rattle.ir_code.specs.Lawful.{is_constant}
-use Rattle.codegen.specs.OpInstructions.{Sites, instructions_of}
+use Rattle.codegen.specs.OpInstructions.{Sites, instructions_of, start_code}
 
 -- ---- numbers of instructions
 
@@ -43,17 +43,23 @@ abbrev pub code_from : Sites → ℕ → List Op → List Instr
 code_from at n [] = []
 code_from at n (o ∷ ops) = instructions_of at n o ++ code_from at (n + size_of o) ops
 
+-- how many instructions the start has
+abbrev pub start_size : ℕ
+start_size = 11
+
 -- how many blocks of 16 words the code fills
 abbrev pub code_blocks : Ir → ℕ
-code_blocks ir = (code_size ir.ops + 15) / 16
+code_blocks ir = (code_size ir.ops + start_size + 15) / 16
 
--- the code, whose last block is filled with instructions that do nothing
+-- the code: that of the operations, the start, and instructions that do nothing, which fill the last block
 abbrev pub code_of : (ℕ → ℕ) → Ir → List Instr
-code_of home ir = code_from (sites_of home ir) 0 ir.ops ++ replicate (16 * code_blocks ir - code_size ir.ops) (Nop 0)
+code_of home ir =
+    code_from (sites_of home ir) 0 ir.ops
+    ++ (start_code (code_size ir.ops) (offset_of ir.ops ir.entry) ++ replicate (16 * code_blocks ir - (code_size ir.ops + start_size)) (Nop 0))
 
--- the number of the instruction at which the run begins
+-- the number of the instruction at which the run begins: that of the start, which comes after the code of the operations
 abbrev pub entry_of : Ir → ℕ
-entry_of ir = offset_of ir.ops ir.entry
+entry_of ir = code_size ir.ops
 
 -- ---- the constants
 

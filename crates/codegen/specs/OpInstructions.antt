@@ -1,6 +1,6 @@
 -- Promise: the instructions of each operation of flat code, in one table. Register 12 takes addresses, 13 to 15 take words, 3 to 8 are
--- the slots from 0 to 5, 9 is the link and 11 the result.
-use Rattle.std.specs.Prelude.{ℕ, ◌+◌, ◌-◌, ◌/◌, ◌%◌, ◌^◌, true, false, nat_le, cond, List, [], ◌∷◌, ℤ, pos, negsuc}
+-- the slots from 0 to 5, 9 is the link and 11 the result. Registers 16 to 25 have the upper parts of addresses from the start on.
+use Rattle.std.specs.Prelude.{ℕ, zero, suc, ◌+◌, ◌-◌, ◌/◌, ◌%◌, ◌^◌, true, false, nat_le, nat_lt, cond, List, [], ◌∷◌, ℤ, pos, negsuc}
 use Rattle.std.specs.Int.{w16, cast_signed}
 use Rattle.aegis_num.specs.declared.UnaryOp.{UnaryOp}
 use Rattle.aegis_num.specs.declared.UnaryOp.TheVariants.{Neg, Inv, Not}
@@ -25,13 +25,26 @@ upper address = (address + 2 ^ 15) / 2 ^ 16
 abbrev pub lower : ℕ → ℤ
 lower address = cast_signed w16 (address % 2 ^ 16)
 
+-- The register that has the upper part of an address: 25 has the part 1, that of shared cells, 16 to 22 have those from 0x1000 to
+-- 0x1006, and 23 and 24 those of logged cells, 0x2000 and 0x2001.
+abbrev pub base_for : ℕ → ℕ
+base_for part = cond (nat_lt part 0x1000) 25 (cond (nat_lt part 0x2000) (16 + part % 8) (23 + part % 2))
+
+abbrev pub base : ℕ → ℕ
+base address = base_for (upper address)
+
+-- so many registers from one on get upper parts, from this one on
+abbrev pub fill : ℕ → ℕ → ℕ → List Instr → List Instr
+fill d part zero rest = rest
+fill d part (suc count) rest = Movhi d part ∷ fill (d + 1) (part + 1) count rest
+
 -- a register gets the word at an address
 abbrev pub read_into : ℕ → ℕ → List Instr → List Instr
-read_into d address rest = Movhi 12 (upper address) ∷ Lwz d (lower address) 12 ∷ rest
+read_into d address rest = Lwz d (lower address) (base address) ∷ rest
 
 -- the word of a register is put at an address
 abbrev pub keep : ℕ → ℕ → List Instr → List Instr
-keep address b rest = Movhi 12 (upper address) ∷ Sw (lower address) 12 b ∷ rest
+keep address b rest = Sw (lower address) (base address) b ∷ rest
 
 -- a register gets a word
 abbrev pub number : ℕ → ℕ → List Instr → List Instr
@@ -39,7 +52,7 @@ number d word rest = Movhi d (word / 2 ^ 16) ∷ Ori d d (word % 2 ^ 16) ∷ res
 
 -- register 12 gets the upper part of an address and four times register 13
 abbrev pub indexed : ℕ → List Instr → List Instr
-indexed address rest = Slli 13 13 2 ∷ Movhi 12 (upper address) ∷ Add 12 12 13 ∷ rest
+indexed address rest = Slli 13 13 2 ∷ Add 12 (base address) 13 ∷ rest
 
 -- register 13 gets 1 where the flag is set, and else 0
 abbrev pub flagged : List Instr → List Instr
@@ -100,7 +113,7 @@ instructions_of at n (op.Store array index from) =
     read_into 13 (at.home index) (read_into 14 (at.home from) (indexed (at.home array) (Sw (lower (at.home array)) 12 14 ∷ [])))
 instructions_of at n (op.Label l) = []
 instructions_of at n (op.Jump l) = J (distance n (at.label l)) ∷ []
-instructions_of at n (op.JumpZero a l) = read_into 13 (at.home a) (Sfeq 13 0 ∷ Bf (distance (n + 3) (at.label l)) ∷ [])
+instructions_of at n (op.JumpZero a l) = read_into 13 (at.home a) (Sfeq 13 0 ∷ Bf (distance (n + 2) (at.label l)) ∷ [])
 instructions_of at n (op.Arg slot from) = read_into (3 + slot) (at.home from) []
 instructions_of at n (op.Param to slot) = keep (at.home to) (3 + slot) []
 instructions_of at n (op.Call l) = Jal (distance n (at.label l)) ∷ []
@@ -115,3 +128,8 @@ instructions_of at n op.Suspend = Cust1 2 ∷ []
 instructions_of at n (op.SetMode true) = Cust1 4 ∷ []
 instructions_of at n (op.SetMode false) = Cust1 5 ∷ []
 instructions_of at n op.Exit = Cust1 1 ∷ []
+
+-- ---- the start: the upper parts come into their registers, and the run goes on at the entry. The first instruction has this number.
+
+abbrev pub start_code : (n entry : ℕ) → List Instr
+start_code n entry = fill 16 0x1000 7 (fill 23 0x2000 2 (fill 25 1 1 (J (distance (n + 10) entry) ∷ [])))

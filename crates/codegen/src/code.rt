@@ -1,9 +1,11 @@
 //! Code as it is written, instruction after instruction.
-ghost use Rattle.std.specs.Prelude.{◌≡◌, ◌<◌, ◌≤◌, ◌^◌, ◌++◌, [], ◌∷◌, map, Some, OnOk};
+ghost use Rattle.std.specs.Prelude.{◌≡◌, ◌<◌, ◌≤◌, ◌+◌, ◌^◌, ◌++◌, [], ◌∷◌, map, Some, OnOk};
 ghost use Rattle.orbis_word.specs.Reading.{instruction_in};
 ghost use Rattle.orbis_word.specs.Table.{IsInRange};
-ghost use Rattle.codegen.specs.OpInstructions.{read_into, flagged, indexed, keep, lower, number, trapped, upper};
+ghost use Rattle.orbis_word.specs.declared.Instr.TheVariants.{J as Jump};
+ghost use Rattle.codegen.specs.OpInstructions.{base, distance, fill, flagged, indexed, keep, lower, number, read_into, start_code, trapped, upper};
 
+use crate::sites::distance;
 use aegis_num::OutOfMemory;
 use orbis_word::{Instr, encode};
 use std::alloc::Global;
@@ -40,6 +42,22 @@ pub fn lower(address: u32) -> i16
     ((address % 0x1_0000) as u16).cast_signed()
 }
 
+/// The register that has the upper part of an address.
+fn base(address: u32) -> u8
+    requires { address < 2 ^ 31 }
+    ensures base { result ≡ base address }
+    ensures register { result < 32 }
+{
+    let part = upper(address);
+    if part < 0x1000 {
+        25
+    } else if part < 0x2000 {
+        16 + (part % 8) as u8
+    } else {
+        23 + (part % 2) as u8
+    }
+}
+
 impl Code {
     /// No code.
     pub fn new(alloc: Global) -> Code
@@ -72,10 +90,9 @@ impl Code {
         requires low { address < 2 ^ 31 }
         ensures { OnOk result (self.new ≡ self.old ++ map Some (read_into d address [])) }
     {
-        let k = upper(address);
-        self.push(Instr::Movhi { d: 12, k })?;
         let i = lower(address);
-        self.push(Instr::Lwz { d, i, a: 12 })
+        let a = base(address);
+        self.push(Instr::Lwz { d, i, a })
     }
 
     /// The word of register `b` is put at an address.
@@ -84,10 +101,9 @@ impl Code {
         requires low { address < 2 ^ 31 }
         ensures { OnOk result (self.new ≡ self.old ++ map Some (keep address b [])) }
     {
-        let k = upper(address);
-        self.push(Instr::Movhi { d: 12, k })?;
         let i = lower(address);
-        self.push(Instr::Sw { i, a: 12, b })
+        let a = base(address);
+        self.push(Instr::Sw { i, a, b })
     }
 
     /// Register `d` gets a word.
@@ -107,13 +123,8 @@ impl Code {
         ensures { OnOk result (self.new ≡ self.old ++ map Some (indexed address [])) }
     {
         self.push(Instr::Slli { d: 13, a: 13, l: 2 })?;
-        let k = upper(address);
-        self.push(Instr::Movhi { d: 12, k })?;
-        self.push(Instr::Add {
-            d: 12,
-            a: 12,
-            b: 13,
-        })
+        let a = base(address);
+        self.push(Instr::Add { d: 12, a, b: 13 })
     }
 
     /// Register 13 gets 1 where the flag is set, and else 0.
@@ -133,5 +144,41 @@ impl Code {
         self.push(Instr::Bf { n: 4 })?;
         self.number(3, token)?;
         self.push(Instr::Cust1 { f: trap })
+    }
+
+    /// A jump from one instruction to another, by their numbers.
+    pub fn jump(&mut self, from: u32, to: u32) -> Result<(), OutOfMemory>
+        requires from { from < 2 ^ 25 }
+        requires to { to < 2 ^ 25 }
+        ensures { OnOk result (self.new ≡ self.old ++ Some (Jump (distance from to)) ∷ []) }
+    {
+        let n = distance(from, to);
+        self.push(Instr::J { n })
+    }
+
+    /// So many registers from one on get upper parts, from this one on.
+    fn fill(&mut self, d: u8, part: u16, count: u8) -> Result<(), OutOfMemory>
+        requires registers { d + count ≤ 32 }
+        requires parts { part + count ≤ 2 ^ 16 }
+        ensures { OnOk result (self.new ≡ self.old ++ map Some (fill d part count [])) }
+    {
+        for i in 0..count {
+            let k = part + i as u16;
+            self.push(Instr::Movhi { d: d + i, k })?;
+        }
+        Ok(())
+    }
+
+    /// The start: the upper parts come into their registers, and the run goes on at an instruction. The first instruction
+    /// of these has this number.
+    pub fn start(&mut self, number: u32, entry: u32) -> Result<(), OutOfMemory>
+        requires near { number + 10 < 2 ^ 25 }
+        requires entry { entry < 2 ^ 25 }
+        ensures { OnOk result (self.new ≡ self.old ++ map Some (start_code number entry)) }
+    {
+        self.fill(16, 0x1000, 7)?;
+        self.fill(23, 0x2000, 2)?;
+        self.fill(25, 1, 1)?;
+        self.jump(number + 10, entry)
     }
 }

@@ -12,7 +12,8 @@ ghost use Rattle.image_file.specs.ImageTable.{static_bytes, HoldsWords};
 ghost use Rattle.orbis_core.specs.Soundness.{IsSound};
 ghost use Rattle.regions.specs.LooseClasses.{shared_and_logged_loose};
 ghost use Rattle.regions.specs.declared.Class.{Class as SomeClass};
-ghost use Rattle.codegen.specs.ImageCode.{code_blocks, code_from, code_size};
+ghost use Rattle.codegen.specs.ImageCode.{code_blocks, code_from, code_size, start_size};
+ghost use Rattle.codegen.specs.OpInstructions.{start_code};
 ghost use Rattle.codegen.specs.EmittedImage.{IsImageOf, MeansCode};
 ghost use Rattle.codegen.specs.EmitFaults.{emit_error};
 ghost use Rattle.codegen.specs.Numbers.{sites_in, AreLow};
@@ -28,6 +29,9 @@ use ir_code::{Ir, Op};
 use orbis_word::Instr;
 use region_plan::plan;
 use std::alloc::Global;
+
+/// How many instructions the start has.
+const START_SIZE: u32 = 11;
 
 /// The code of operations.
 fn code_for(alloc: Global, sites: &Sites, ops: &[Op]) -> Result<Code, OutOfMemory>
@@ -64,26 +68,30 @@ fn words_of(words: Vec<u32>) -> CodeWords
     CodeWords::new(words)
 }
 
-/// The code of an image of so many words, where the operations become `size` instructions.
+/// The code of an image of so many words, where the operations become `size` instructions and the run goes on from its
+/// start at `entry`.
 fn image_code(
     alloc: Global,
     sites: &Sites,
     ops: &[Op],
     size: u32,
+    entry: u32,
     words: u32,
 ) -> Result<CodeWords, OutOfMemory>
     requires low { AreLow sites.now.homes.now sites.now.labels.now }
-    requires near { code_size ops.now + 3 < 2 ^ 25 }
+    requires near { code_size ops.now + start_size < 2 ^ 25 }
     requires slots { all_hold (λ slot. nat_lt slot MAX_PARAMETERS) (named_by slots_of ops.now) ≡ true }
     requires size { size ≡ code_size ops.now }
-    requires room { size ≤ words }
+    requires entry { entry ≤ size }
+    requires room { size + start_size ≤ words }
     ensures code { IfOk result (λ code. map instruction_in code ≡ map Some (code_from
         (sites_in sites.now.homes.now sites.now.labels.now) 0 ops.now
-        ++ replicate (words - size) (Nothing 0))) }
+        ++ (start_code size entry ++ replicate (words - (size + start_size)) (Nothing 0)))) }
     ensures words { IfOk result (AllByRecursion (λ word. word < 2 ^ 32)) }
 {
     let mut code = code_for(alloc, sites, ops)?;
-    push_nothing(&mut code, words - size)?;
+    code.start(size, entry)?;
+    push_nothing(&mut code, words - (size + START_SIZE))?;
     Ok(words_of(code.into_words()))
 }
 
@@ -111,19 +119,19 @@ pub fn emit(alloc: Global, ir: &Ir) -> Result<Image, EmitError>
 {
     let ops = ir.ops.as_slice();
     let size = code_size(ops);
-    let placement = plan(alloc, ir, (size + 15) / BLOCK_WORDS)?;
+    let placement = plan(alloc, ir, (size + START_SIZE + 15) / BLOCK_WORDS)?;
     let layout = placement.layout;
     let labels = labels_of(alloc, ops, size)?;
     let sites = Sites {
         homes: placement.homes.as_slice(),
         labels: &labels,
     };
-    let code = image_code(alloc, &sites, ops, size, BLOCK_WORDS * layout.code)?;
-    let constants = constant_bytes(alloc, ir.cells.as_slice(), layout.constants)?;
     let entry = code_size(&ops[..ir.entry as usize]);
+    let code = image_code(alloc, &sites, ops, size, entry, BLOCK_WORDS * layout.code)?;
+    let constants = constant_bytes(alloc, ir.cells.as_slice(), layout.constants)?;
     Ok(Image {
         layout,
-        entry,
+        entry: size,
         constants,
         code,
     })

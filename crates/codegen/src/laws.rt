@@ -1,6 +1,6 @@
 //! Laws of images for flat code.
 ghost use Rattle.codegen.specs.EmittedImage.{ImagesMeanCode};
-ghost use Rattle.codegen.specs.SoundImages.{ImagesAreSound, SizesFitWeights};
+ghost use Rattle.codegen.specs.SoundImages.{ImagesAreSound, SizesFitWeights, StartFitsWeight};
 
 /// The image of flat code that is lawful with some classes loose does on the ideal machine, with these classes loose, what the
 /// code means: it comes to the same end with the same bytes, shared writes and counts, in at most as many steps as the weight
@@ -15,7 +15,8 @@ pub fn images_are_sound()
     ensures sound { ImagesAreSound }
 {}
 
-/// An operation has at most as many instructions as its weight says.
+/// An operation has at most as many instructions as its weight says, and the start as many.
 pub fn sizes_fit_weights()
     ensures sizes { SizesFitWeights }
+    ensures start { StartFitsWeight }
 {}

@@ -178,7 +178,7 @@ impl Code {
     {
         self.fetch(13, sites.home(a))?;
         self.push(Instr::Sfeq { a: 13, b: 0 })?;
-        let n = distance(number + 3, sites.label(l));
+        let n = distance(number + 2, sites.label(l));
         self.push(Instr::Bf { n })
     }
 
@@ -216,10 +216,7 @@ impl Code {
             Op::Load { to, array, index } => self.load(sites, to, array, index),
             Op::Store { array, index, from } => self.store(sites, array, index, from),
             Op::Label(_) => Ok(()),
-            Op::Jump(l) => {
-                let n = distance(number, sites.label(l));
-                self.push(Instr::J { n })
-            }
+            Op::Jump(l) => self.jump(number, sites.label(l)),
             Op::JumpZero { a, l } => self.jump_zero(sites, number, a, l),
             Op::Arg { slot, from } => self.fetch(3 + slot as u8, sites.home(from)),
             Op::Param { to, slot } => self.keep(sites.home(to), 3 + slot as u8),

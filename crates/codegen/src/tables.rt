@@ -14,22 +14,22 @@ use std::collections::HashMap;
 /// How many instructions an operator of one operand becomes, with those that fetch and keep.
 fn size_of_unary(operator: UnaryOp) -> u32
     ensures size { (to a : ℕ) → result ≡ size_of (Unary operator to a) }
-    ensures small { result ≤ 10 }
+    ensures small { result ≤ 8 }
 {
     match operator {
-        UnaryOp::Neg => 5,
-        UnaryOp::Inv => 6,
-        UnaryOp::Not => 8,
+        UnaryOp::Neg => 3,
+        UnaryOp::Inv => 4,
+        UnaryOp::Not => 6,
     }
 }
 
 /// How many instructions an operator of two operands becomes, with those that fetch and keep.
 fn size_of_binary(operator: BinaryOp) -> u32
     ensures size { (to a b : ℕ) → result ≡ size_of (Binary operator to a b) }
-    ensures small { result ≤ 10 }
+    ensures small { result ≤ 8 }
 {
     match operator {
-        BinaryOp::RemS | BinaryOp::RemU => 9,
+        BinaryOp::RemS | BinaryOp::RemU => 6,
         BinaryOp::Eq
         | BinaryOp::Ne
         | BinaryOp::LtS
@@ -39,29 +39,34 @@ fn size_of_binary(operator: BinaryOp) -> u32
         | BinaryOp::GtS
         | BinaryOp::GtU
         | BinaryOp::GeS
-        | BinaryOp::GeU => 10,
-        _ => 7,
+        | BinaryOp::GeU => 7,
+        _ => 4,
     }
 }
 
 /// How many instructions an operation becomes.
 pub fn size_of(o: Op) -> u32
     ensures size { result ≡ size_of o }
-    ensures small { result ≤ 10 }
+    ensures small { result ≤ 8 }
 {
     match o {
         Op::Label(_) => 0,
-        Op::Jump(_) | Op::Call(_) | Op::Check | Op::Suspend | Op::SetMode(_) | Op::Exit => 1,
-        Op::Arg { .. }
+        Op::Jump(_)
+        | Op::Arg { .. }
         | Op::Param { .. }
+        | Op::Call(_)
         | Op::SaveLink(_)
         | Op::SetResult { .. }
-        | Op::Result { .. } => 2,
-        Op::Return(_) | Op::Input { .. } | Op::Release { .. } => 3,
-        Op::Const { .. } | Op::Copy { .. } | Op::JumpZero { .. } => 4,
-        Op::NonZero { .. } => 7,
-        Op::Load { .. } | Op::Store { .. } => 8,
-        Op::Test { .. } => 9,
+        | Op::Result { .. }
+        | Op::Check
+        | Op::Suspend
+        | Op::SetMode(_)
+        | Op::Exit => 1,
+        Op::Copy { .. } | Op::Return(_) | Op::Input { .. } | Op::Release { .. } => 2,
+        Op::Const { .. } | Op::JumpZero { .. } => 3,
+        Op::Load { .. } | Op::Store { .. } => 5,
+        Op::NonZero { .. } => 6,
+        Op::Test { .. } => 8,
         Op::Unary { op, .. } => size_of_unary(op),
         Op::Binary { op, .. } => size_of_binary(op),
     }
@@ -71,7 +76,7 @@ pub fn size_of(o: Op) -> u32
 pub fn code_size(ops: &[Op]) -> u32
     requires { length ops.now < 2 ^ 28 }
     ensures size { result ≡ code_size ops.now }
-    ensures small { result ≤ 10 * length ops.now }
+    ensures small { result ≤ 8 * length ops.now }
 {
     let mut size = 0;
     for o in ops {

@@ -97,7 +97,7 @@ fits = (refl, refl, refl)
 
 faults : (source_fault (holding (wide 1 storage.Shared 8193 ∷ [])) ≡ Some (OpenFull 32772))
     × (source_fault (holding (wide 1 storage.Logged 16385 ∷ wide 2 storage.Shared 8193 ∷ [])) ≡ Some (LogFull 1025))
-    × (source_fault (holding (wide 1 storage.Verified 65536 ∷ wide 2 storage.Private 65536 ∷ wide 3 storage.Logged 16385 ∷ [])) ≡ Some (TreeFull 8194))
+    × (source_fault (holding (wide 1 storage.Verified 65536 ∷ wide 2 storage.Private 65536 ∷ wide 3 storage.Logged 16385 ∷ [])) ≡ Some (TreeFull 8195))
 faults = (refl, refl, refl)
 
 -- ---- names: an address of the map, both ways

@@ -9,6 +9,7 @@ use Rattle.c_meaning.specs.SourceNodes.{items_count}
 use Rattle.c_resolver.specs.Resolving.{plain_program}
 use Rattle.c_semantics.specs.ResolvedTree.{Function}
 use Rattle.ir_code.specs.declared.Op.{Op}
+use Rattle.ir_code.specs.OpTable.{start_weight}
 use Rattle.lowering.specs.Cells.{cell_count, cells_of, class_for, function_cells, words}
 use Rattle.lowering.specs.Lowering.{lowered}
 use Rattle.lowering.specs.Sizes.{weight_of_all}
@@ -16,7 +17,7 @@ use Rattle.secure_split.specs.SplitLaws.{IsSmallCode}
 use Rattle.region_plan.specs.Homes.{HasSizes, blocks_for, class_words, is_same_class, words_for}
 use Rattle.region_plan.specs.PlanFaults.{fault_of, plan_fault}
 use Rattle.image_file.specs.declared.Image.{Image}
-use Rattle.codegen.specs.ImageCode.{code_blocks, code_size}
+use Rattle.codegen.specs.ImageCode.{code_blocks, code_size, start_size}
 use Rattle.codegen.specs.EmittedImage.{IsImageOf}
 use Rattle.codegen.proofs.Sizes.{sizes-fit-weights}
 use Rattle.compiler.specs.MemoryUse.{HasMemory, IsSmallImage, constant_blocks, function_words, is_as_private, private_blocks, source_fault, verified_blocks}
@@ -129,8 +130,8 @@ module _ (p : Program) where
 
   pub small-image : (image : Image) → IsImageOf (lowered (plain_program p)) image → IsSmallCode p (lowered (plain_program p)) → IsSmallImage p image
   small-image image is small =
-      let blocks : image.layout.code ≡ (code_size (lowered (plain_program p)).ops + 15) / 16 = is.sizes.code in
+      let blocks : image.layout.code ≡ (code_size (lowered (plain_program p)).ops + start_size + 15) / 16 = is.sizes.code in
       let whole : length image.code ≡ 16 * image.layout.code = image.code_whole in
       let light : code_size (lowered (plain_program p)).ops ≤ weight_of_all (lowered (plain_program p)).ops = size-by-weight (lowered (plain_program p)).ops in
-      let most : weight_of_all (lowered (plain_program p)).ops ≤ 64 * items_count p.items + 64 = small.weight in
+      let most : start_weight + weight_of_all (lowered (plain_program p)).ops ≤ 64 * items_count p.items + 64 = small.weight in
       record { code = omega (arith, blocks, whole, light, most); temporaries = small.temporaries }

@@ -14,10 +14,10 @@ use Rattle.ir_code.specs.declared.ops.Op.{Op}
 use Rattle.ir_code.specs.declared.ops.Op.TheVariants as op
 use Rattle.ir_code.specs.FlatStates.{class_of, FlatEnd, Ended, Index, Divide, Starved, Stuck, Step}
 use Rattle.ir_code.specs.FlatMeaning.{flat_run}
-use Rattle.ir_code.specs.OpTable.{targets, sources, loaded as loaded_arrays, stored, link_cells, goes_to, labels_of, slots_of}
+use Rattle.ir_code.specs.OpTable.{start_weight, targets, sources, loaded as loaded_arrays, stored, link_cells, goes_to, labels_of, slots_of}
 use Rattle.ir_code.specs.Lawful.{HasForm, all_hold, is_among, is_once, named_by, keeps_links, is_scalar, is_written, is_there, has_first, is_data, ends_well, keeps_apart}
 
--- what is to be seen of a run: its end, what has come and gone, the weight run and the jumps made
+-- what is to be seen of a run: its end, what has come and gone, the weight of the start and of what was run, and the jumps made
 pub record Seen : Type 0 where
   pub end : Option FlatEnd
   pub traffic : Traffic Element
@@ -47,10 +47,10 @@ straight = record {
   entry = 0;
 }
 
-straight-runs : seen (flat_run nothing_loose straight [] [] 5) ≡ record { end = Some Ended; traffic = released (0x48 ∷ 0x69 ∷ []) 2; weight = 15; jumps = 0 }
+straight-runs : seen (flat_run nothing_loose straight [] [] 5) ≡ record { end = Some Ended; traffic = released (0x48 ∷ 0x69 ∷ []) 2; weight = 26; jumps = 0 }
 straight-runs = refl
 
-straight-midway : seen (flat_run nothing_loose straight [] [] 3) ≡ record { end = None; traffic = released (0x48 ∷ []) 1; weight = 11; jumps = 0 }
+straight-midway : seen (flat_run nothing_loose straight [] [] 3) ≡ record { end = None; traffic = released (0x48 ∷ []) 1; weight = 22; jumps = 0 }
 straight-midway = refl
 
 -- ---- a loop with a trap: the array has two elements, and the third turn ends at the token 7
@@ -62,10 +62,10 @@ looping = record {
   entry = 0;
 }
 
-looping-runs : seen (flat_run nothing_loose looping [] [] 99) ≡ record { end = Some (Index 7); traffic = released (0 ∷ 1 ∷ []) 2; weight = 106; jumps = 2 }
+looping-runs : seen (flat_run nothing_loose looping [] [] 99) ≡ record { end = Some (Index 7); traffic = released (0 ∷ 1 ∷ []) 2; weight = 117; jumps = 2 }
 looping-runs = refl
 
-looping-goes-on : seen (flat_run nothing_loose looping [] [] 8) ≡ record { end = None; traffic = released (0 ∷ []) 1; weight = 50; jumps = 1 }
+looping-goes-on : seen (flat_run nothing_loose looping [] [] 8) ≡ record { end = None; traffic = released (0 ∷ []) 1; weight = 61; jumps = 1 }
 looping-goes-on = refl
 
 -- ---- a call of a private function with an argument: it answers the argument and 3
@@ -81,14 +81,14 @@ calling_by before after = record {
 abbrev pub calling : Ir
 calling = calling_by true false
 
-calling-runs : seen (flat_run nothing_loose calling [] [] 15) ≡ record { end = Some Ended; traffic = released (0x43 ∷ []) 1; weight = 40; jumps = 2 }
+calling-runs : seen (flat_run nothing_loose calling [] [] 15) ≡ record { end = Some Ended; traffic = released (0x43 ∷ []) 1; weight = 51; jumps = 2 }
 calling-runs = refl
 
 -- without a change of mode, and with one that changes nothing
-calling-unprivate : seen (flat_run nothing_loose (calling_by false false) [] [] 15) ≡ record { end = Some Stuck; traffic = released [] 0; weight = 7; jumps = 0 }
+calling-unprivate : seen (flat_run nothing_loose (calling_by false false) [] [] 15) ≡ record { end = Some Stuck; traffic = released [] 0; weight = 18; jumps = 0 }
 calling-unprivate = refl
 
-calling-private-still : seen (flat_run nothing_loose (calling_by true true) [] [] 15) ≡ record { end = Some Stuck; traffic = released [] 0; weight = 34; jumps = 2 }
+calling-private-still : seen (flat_run nothing_loose (calling_by true true) [] [] 15) ≡ record { end = Some Stuck; traffic = released [] 0; weight = 45; jumps = 2 }
 calling-private-still = refl
 
 -- ---- all three have the form of lawful flat code
@@ -168,7 +168,7 @@ having ops = record { cells = cells; ops = ops; entry = 0 }
 -- released by the last operation, the exit being reached
 abbrev pub gives : List Op → List ℕ → ℕ → ℕ → Type 0
 gives ops bytes weight jumps =
-    seen (flat_run nothing_loose (having ops) [] [] 20) ≡ record { end = Some Ended; traffic = released bytes 1; weight = weight; jumps = jumps }
+    seen (flat_run nothing_loose (having ops) [] [] 20) ≡ record { end = Some Ended; traffic = released bytes 1; weight = start_weight + weight; jumps = jumps }
 
 copy : gives (op.Const 0 8 ∷ op.Copy 1 0 ∷ op.Const 0 9 ∷ op.Release 1 ∷ op.Exit ∷ []) (8 ∷ []) 16 0
 copy = refl
@@ -201,15 +201,15 @@ result = refl
 tested : gives (op.Const 0 2 ∷ op.Test 0 3 7 ∷ op.NonZero 0 8 ∷ op.Release 0 ∷ op.Exit ∷ []) (2 ∷ []) 26 0
 tested = refl
 
-test-fails : seen (flat_run nothing_loose (having (op.Const 0 3 ∷ op.Test 0 3 7 ∷ op.Exit ∷ [])) [] [] 20) ≡ record { end = Some (Index 7); traffic = released [] 0; weight = 14; jumps = 0 }
+test-fails : seen (flat_run nothing_loose (having (op.Const 0 3 ∷ op.Test 0 3 7 ∷ op.Exit ∷ [])) [] [] 20) ≡ record { end = Some (Index 7); traffic = released [] 0; weight = 25; jumps = 0 }
 test-fails = refl
 
-divides : seen (flat_run nothing_loose (having (op.NonZero 0 8 ∷ op.Exit ∷ [])) [] [] 20) ≡ record { end = Some (Divide 8); traffic = released [] 0; weight = 8; jumps = 0 }
+divides : seen (flat_run nothing_loose (having (op.NonZero 0 8 ∷ op.Exit ∷ [])) [] [] 20) ≡ record { end = Some (Divide 8); traffic = released [] 0; weight = 19; jumps = 0 }
 divides = refl
 
 -- a byte of the input, and -1 after the last one; a check and two suspensions
 inputs : seen (flat_run nothing_loose (having (op.Input 0 ∷ op.Input 1 ∷ op.Release 0 ∷ op.Release 1 ∷ op.Check ∷ op.Suspend ∷ op.Suspend ∷ op.Exit ∷ [])) (7 ∷ []) [] 20)
-    ≡ record { end = Some Ended; traffic = record (released (7 ∷ 255 ∷ []) 2) { checks = 1; suspensions = 2 }; weight = 16; jumps = 0 }
+    ≡ record { end = Some Ended; traffic = record (released (7 ∷ 255 ∷ []) 2) { checks = 1; suspensions = 2 }; weight = 27; jumps = 0 }
 inputs = refl
 
 -- ---- shared and logged cells
@@ -220,30 +220,30 @@ sharing = having (op.Const 0 1 ∷ op.Const 1 9 ∷ op.Store 3 0 1 ∷ op.Const 
 
 -- nothing is loose: the words written are read, and the shared one alone is noted
 sharing-alone : seen (flat_run nothing_loose sharing [] (entry 3 1 2 ∷ []) 20)
-    ≡ record { end = Some Ended; traffic = record (released (9 ∷ 8 ∷ []) 2) { loose = entry 3 1 2 ∷ []; writes = entry 3 1 9 ∷ [] }; weight = 59; jumps = 0 }
+    ≡ record { end = Some Ended; traffic = record (released (9 ∷ 8 ∷ []) 2) { loose = entry 3 1 2 ∷ []; writes = entry 3 1 9 ∷ [] }; weight = 70; jumps = 0 }
 sharing-alone = refl
 
 -- shared cells are loose
 sharing-shared : seen (flat_run shared_loose sharing [] (entry 3 1 2 ∷ []) 20)
-    ≡ record { end = Some Ended; traffic = record (released (2 ∷ 8 ∷ []) 2) { taken = 1; writes = entry 3 1 9 ∷ [] }; weight = 59; jumps = 0 }
+    ≡ record { end = Some Ended; traffic = record (released (2 ∷ 8 ∷ []) 2) { taken = 1; writes = entry 3 1 9 ∷ [] }; weight = 70; jumps = 0 }
 sharing-shared = refl
 
 -- logged cells are too
 sharing-logged : seen (flat_run shared_and_logged_loose sharing [] (entry 3 1 2 ∷ entry 4 1 6 ∷ []) 20)
-    ≡ record { end = Some Ended; traffic = record (released (2 ∷ 6 ∷ []) 2) { taken = 2; writes = entry 3 1 9 ∷ [] }; weight = 59; jumps = 0 }
+    ≡ record { end = Some Ended; traffic = record (released (2 ∷ 6 ∷ []) 2) { taken = 2; writes = entry 3 1 9 ∷ [] }; weight = 70; jumps = 0 }
 sharing-logged = refl
 
 -- starved where the next entry is of another index, of another cell, and where there is none
 sharing-starved : seen (flat_run shared_and_logged_loose sharing [] (entry 3 0 2 ∷ []) 20)
-    ≡ record { end = Some Starved; traffic = record (released [] 0) { loose = entry 3 0 2 ∷ []; writes = entry 3 1 9 ∷ [] }; weight = 42; jumps = 0 }
+    ≡ record { end = Some Starved; traffic = record (released [] 0) { loose = entry 3 0 2 ∷ []; writes = entry 3 1 9 ∷ [] }; weight = 53; jumps = 0 }
 sharing-starved = refl
 
 sharing-starved-later : seen (flat_run shared_and_logged_loose sharing [] (entry 3 1 2 ∷ entry 3 1 6 ∷ []) 20)
-    ≡ record { end = Some Starved; traffic = record (released (2 ∷ []) 1) { taken = 1; loose = entry 3 1 6 ∷ []; writes = entry 3 1 9 ∷ [] }; weight = 55; jumps = 0 }
+    ≡ record { end = Some Starved; traffic = record (released (2 ∷ []) 1) { taken = 1; loose = entry 3 1 6 ∷ []; writes = entry 3 1 9 ∷ [] }; weight = 66; jumps = 0 }
 sharing-starved-later = refl
 
 sharing-starved-none : seen (flat_run shared_loose sharing [] [] 20)
-    ≡ record { end = Some Starved; traffic = record (released [] 0) { writes = entry 3 1 9 ∷ [] }; weight = 42; jumps = 0 }
+    ≡ record { end = Some Starved; traffic = record (released [] 0) { writes = entry 3 1 9 ∷ [] }; weight = 53; jumps = 0 }
 sharing-starved-none = refl
 
 -- ---- what breaks the form

@@ -13,7 +13,7 @@ use Rattle.ir_code.specs.declared.code.Cell.{Cell}
 use Rattle.ir_code.specs.declared.code.Ir.{Ir}
 use Rattle.ir_code.specs.declared.ops.Op.{Op}
 use Rattle.ir_code.specs.declared.ops.Op.TheVariants as op
-use Rattle.ir_code.specs.OpTable.{weight_of, keeps_slots, keeps_link}
+use Rattle.ir_code.specs.OpTable.{weight_of, start_weight, keeps_slots, keeps_link}
 
 -- what a cell holds at an index: a word, or the place to which a call returns
 pub data Held : Type 0 where
@@ -33,7 +33,7 @@ pub record FlatState : Type 0 where
   pub private : Bool
   -- what comes in and goes out, where a cell and an index are the variable and the index of an element
   pub traffic : Traffic Element
-  -- the weights of the operations that were run, and how many of them jumped
+  -- the weights of the start and of the operations that were run, and how many of them jumped
   pub weight : ℕ
   pub jumps : ℕ
 
@@ -125,7 +125,7 @@ first_flat ir input loose = record {
   result = None;
   private = false;
   traffic = traffic_from input loose;
-  weight = 0;
+  weight = start_weight;
   jumps = 0;
 }
 

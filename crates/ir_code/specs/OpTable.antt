@@ -31,6 +31,10 @@ weight_of op.Suspend = 1
 weight_of (op.SetMode private) = 1
 weight_of op.Exit = 1
 
+-- the weight of what is done before the first operation
+abbrev pub start_weight : ℕ
+start_weight = 11
+
 -- Slots keep their words, and a result is still there, after these. After any other operation slots and result are forgotten.
 abbrev pub keeps_slots : Op → Bool
 keeps_slots (op.Arg slot from) = true

@@ -39,7 +39,7 @@ pub record Callable (w : World) (calls : Calls) (number count limit : ℕ) : Typ
   pub entry : ℕ
   pub stands : slice_get w.ir.ops entry ≡ Some (op.Label number)
   pub runs : (b : Bounds) (c k n ret : ℕ) (words : List ℕ) (s : State) (f : FlatState) → length words ≡ count → b.frame.private ≡ w.is_private number →
-      limit ≤ b.above → limit < b.frame.link → 65 ≤ k → At w b (c + 23) k n entry (tick (setting w) s) f → f.link ≡ Some ret → SlotsHold f.slots 0 words →
+      limit ≤ b.above → limit < b.frame.link → 65 ≤ k → At w b (c + 11 + 2 * count) k n entry (tick (setting w) s) f → f.link ≡ Some ret → SlotsHold f.slots 0 words →
       Sim w b.total (calls number words s) (Returned w b c k n ret) f
 
 -- one that stands before the function with this frame
@@ -110,7 +110,7 @@ module _ (w : World) where
       (λ g hg cells kept link.
       after w b.total (Returned w (now b can.limit g) c' (k + 64) n (p + 1)) (Returned w b c' k n (p + 1)) (meant number words s) g
       (can.callable.runs (now b can.limit g) c' (k + 64) n (p + 1) words s g many same (omega arith) can.below (omega (arith, room))
-      (weaken w (now b can.limit g) (c' + 32) (c' + 23) (k + 64) (k + 64) n n can.callable.entry (tick (setting w) s) g (omega arith) (omega arith) (omega arith)
+      (weaken w (now b can.limit g) (c' + 32) (c' + 11 + 2 * count) (k + 64) (k + 64) n n can.callable.entry (tick (setting w) s) g (omega (arith, can.callable.few)) (omega arith) (omega arith)
       (ticked w (now b can.limit g) c' (k + 64) n can.callable.entry s g (narrow w b can.limit c' (k + 64) n can.callable.entry s g hg))) link (subst (λ (t : ℕ → Option ℕ). SlotsHold t 0 words) (sym kept) slots))
       (λ v s' g' r. record {
         at = weaken w b c' c' (k + 64) k n n (p + 1) s' g' (omega arith) (omega arith) (omega arith)

@@ -78,12 +78,12 @@ module _ (E : Env) where
   -- a function runs, from its label until it is back
   pub function-sim : (f : Function) (number label entry q : ℕ) (b : Bounds) (c k n ret : ℕ) (words : List ℕ) (s : State) (g : FlatState) → FunctionFits E f →
       Spans E.w entry (function_code scope number E.frame.link label f) q → length words ≡ length f.parameters → b.frame.private ≡ E.frame.private →
-      E.frame.top ≤ b.above → E.frame.top < b.frame.link → 65 ≤ k → At E.w b (c + 23) k n entry (tick (setting E.w) s) g → g.link ≡ Some ret → SlotsHold g.slots 0 words →
+      E.frame.top ≤ b.above → E.frame.top < b.frame.link → 65 ≤ k → At E.w b (c + 11 + 2 * length f.parameters) k n entry (tick (setting E.w) s) g → g.link ≡ Some ret → SlotsHold g.slots 0 words →
       Sim E.w b.total (function_meaning (setting E.w) E.calls f words s) (call.Returned E.w b c k n ret) g
   function-sim f number label entry q b c k n ret words s g fit code many same above below room h link slots =
-      begins E.w P out b number (c + 23) k n entry s₁ g code.0 h
+      begins E.w P out b number (c + 11 + 2 * length f.parameters) k n entry s₁ g code.0 h
       (λ g₁ h₁ slots₁ link₁ result₁ cells₁.
-      taken P out b f.parameters words 0 ret (c + 23) (c + 11) k n (entry + 1) one.middle s₁ g₁ many fit.parameters same (omega (arith, below, fit.top)) (omega (arith, above, fit.top)) (omega (arith, few))
+      taken P out b f.parameters words 0 ret (c + 11 + 2 * length f.parameters) (c + 11) k n (entry + 1) one.middle s₁ g₁ many fit.parameters same (omega (arith, below, fit.top)) (omega (arith, above, fit.top)) (omega arith)
       (subst (λ (t : ℕ → Option ℕ). SlotsHold t 0 words) (sym slots₁) slots) (link₁ ∙ link) one.first h₁
       (λ g₂ h₂ link₂.
       saves E.w P out b E.frame ret (c + 11) (c + 9) k n one.middle s₂ g₂ one.second.0 (omega arith) E.fits (omega (arith, fit.top)) same link₂ h₂
@@ -107,9 +107,6 @@ module _ (E : Env) where
 
       top : ℕ
       top = E.frame.top
-
-      few : length f.parameters ≤ 6
-      few = fit.few
 
       exits : Exits
       exits = record { broken = label + 1; continued = label + 1; returned = label }

@@ -157,7 +157,7 @@ module _ (w : World) (p : Program) (laid : Laid w p) where
       b : Bounds
       b = record { frame = record { private = false; link = known.0; top = known.0 }; total = total; above = known.0; contents = λ x. f₀.cells x 0 }
 
-      begins : At w b 32 64 total w.ir.entry (tick (setting w) s₀) f₀
+      begins : At w b 21 64 total w.ir.entry (tick (setting w) s₀) f₀
       begins = record {
         at_place = refl;
         traffic = refl;
@@ -175,10 +175,11 @@ module _ (w : World) (p : Program) (laid : Laid w p) where
 
       sim : Sim w total (outcome_of (setting w) p input (map (entry_named (element_back w)) loose) total) P f₀
       sim =
-          calls w P (calls_of (setting w) p.functions p.main [] s₀) b p.main main.callable.entry 32 31 64 total w.ir.entry (tick (setting w) s₀) f₀ laid.call main.callable.stands (omega arith) begins
+          calls w P (calls_of (setting w) p.functions p.main [] s₀) b p.main main.callable.entry 21 20 64 total w.ir.entry (tick (setting w) s₀) f₀ laid.call main.callable.stands (omega arith) begins
           (λ g hg cells slots link.
           follow w total (call.Returned w b 8 128 total (w.ir.entry + 1)) P (calls_of (setting w) p.functions p.main [] s₀) g
-          (main.callable.runs b 8 128 total (w.ir.entry + 1) [] s₀ g (sym (ap length laid.bare)) (sym laid.public) (omega (arith, main.below)) main.below (omega arith) hg link tt)
+          (main.callable.runs b 8 128 total (w.ir.entry + 1) [] s₀ g (sym (ap length laid.bare)) (sym laid.public) (omega (arith, main.below)) main.below (omega arith)
+          (weaken w b 20 (8 + 11 + 2 * length laid.main.parameters) 128 128 total total main.callable.entry (tick (setting w) s₀) g (let none : length laid.main.parameters ≡ 0 = ap length laid.bare in omega (arith, none)) (omega arith) (omega arith) hg) link tt)
           (λ v s g' r. goes w total P v s g' (record { at = weaken w b 8 8 128 64 total total (w.ir.entry + 1) s g' (omega arith) (omega arith) (omega arith) r.at; result = r.result })))
 
       go : (o : Outcome ℕ) → Sim w total o P f₀ → Finish w total o f₀

@@ -10,7 +10,7 @@ use Rattle.c_semantics.specs.ResolvedTree.{Arguments, NoArguments, Argument, Exp
 use Rattle.ir_code.specs.declared.code.Cell.{Cell}
 use Rattle.ir_code.specs.declared.ops.Op.{Op}
 use Rattle.ir_code.specs.declared.ops.Op.TheVariants as op
-use Rattle.ir_code.specs.OpTable.{weight_of}
+use Rattle.ir_code.specs.OpTable.{weight_of, start_weight}
 use Rattle.lowering.specs.Cells.{room_of, room_of_all, room_of_part, room_in, class_for, words, cell_count, function_cells, object_cells, cells_of, home_of}
 use Rattle.lowering.specs.Lowering.{Scope, Exits, labels_in, labels_in_part, labels_within, labels_of_function, passing, calling_by, testing_divisor, value_code, values_code, value_or, statement_code, taking, function_code, functions_code, is_private_in, all_functions, entry_code, lowered}
 use Rattle.lowering.specs.Sizes.{weight_of_all, temporary_cells, HasSize, SizesFollow}
@@ -160,7 +160,7 @@ functions-size (f ∷ fs) home is_private number cell label =
     let k : total rest ≤ 64 * functions_nodes fs = functions-size fs home is_private (number + 1) (cell + cell_count f) (label + labels_of_function f) in
     omega (arith, e, h, k)
 
-program-size : (p : Program) → total (lowered p).ops ≤ 64 * nodes p + 64
+program-size : (p : Program) → start_weight + total (lowered p).ops ≤ 64 * nodes p + 64
 program-size p =
     let e : total (lowered p).ops ≡ total (all_functions p) + total (entry_code p) = total-append (all_functions p) (entry_code p) in
     let s : total (entry_code p) ≡ total (calling_by false (is_private_in p.functions p.main) p.main) + total (op.Exit ∷ []) = total-append (calling_by false (is_private_in p.functions p.main) p.main) (op.Exit ∷ []) in
@@ -286,6 +286,6 @@ cells-few p =
 
 pub sizes-follow : SizesFollow
 sizes-follow p =
-    let h : total (lowered p).ops ≤ 64 * nodes p + 64 = program-size p in
+    let h : start_weight + total (lowered p).ops ≤ 64 * nodes p + 64 = program-size p in
     let e : total (lowered p).ops ≡ length (lowered p).ops + weight_of_all (lowered p).ops = both-in-total (lowered p).ops in
     record { weight = omega (arith, h, e); count = omega (arith, h, e); temporaries = functions-room p.functions; cells = program-cells p }

@@ -12,9 +12,9 @@ pub fn lowered_code_means_the_source()
     ensures names { NamesReach }
 {}
 
-/// The flat code of a program has for each of its nodes at most 64 units of weight, at most 64 operations and at most two
-/// cells of one word for links and temporaries, and 64 units and operations more. Each other cell is for a declared
-/// variable.
+/// The flat code of a program has with the start for each of its nodes at most 64 units of weight, at most 64 operations and
+/// at most two cells of one word for links and temporaries, and 64 units and operations more. Each other cell is for a
+/// declared variable.
 pub fn lowered_code_is_small()
     ensures sizes { SizesFollow }
 {}

@@ -28,6 +28,7 @@ use Rattle.lowering.proofs.Starting.{starts-plainly}
 use Rattle.lowering.proofs.Variables.{program-once, tokens-of-program, tokens_in}
 use Rattle.lowering.proofs.Whole.{is-lowered, names-reach}
 use Rattle.ir_code.specs.Lawful.{IsLawful}
+use Rattle.ir_code.specs.OpTable.{start_weight}
 use Rattle.secure_split.specs.SplitLaws.{InEach, GoesForward, GoesBackward, IsWithinWork, IsSmallCode, GuardsPrivate, HasSourceCells}
 use Rattle.secure_split.proofs.Counting.{items-counted, tokens-length}
 
@@ -112,7 +113,7 @@ module _ (p : Program) (read : IsReadProgram p) (typed : IsTyped p) where
       let size : HasSize (plain_program p) = sizes-follow (plain_program p) in
       let same : nodes (plain_program p) ≡ items_count p.items = agree in
       record {
-        weight = subst (λ n. weight_of_all (lowered (plain_program p)).ops ≤ 64 * n + 64) same size.weight;
+        weight = subst (λ n. start_weight + weight_of_all (lowered (plain_program p)).ops ≤ 64 * n + 64) same size.weight;
         count = subst (λ n. length (lowered (plain_program p)).ops ≤ 64 * n + 64) same size.count;
         temporaries = subst (λ n. temporary_cells (plain_program p).functions ≤ 2 * n) same size.temporaries;
         cells = size.cells;

@@ -16,6 +16,7 @@ use Rattle.ir_code.specs.declared.code.Ir.{Ir}
 use Rattle.ir_code.specs.FlatStates.{FlatState, FlatEnd, Later, Stuck, class_of}
 use Rattle.ir_code.specs.FlatMeaning.{flat_run, touching}
 use Rattle.ir_code.specs.Lawful.{IsNeverStuck}
+use Rattle.ir_code.specs.OpTable.{start_weight}
 use Rattle.lowering.specs.Cells.{cells_of, source_element, cell_element}
 use Rattle.lowering.specs.CellLaws.{HasCells}
 use Rattle.lowering.specs.LoweringLaws.{flat_end}
@@ -60,10 +61,10 @@ pub record IsWithinWork (p : Program) (ir : Ir) (is_loose : Class → Bool) : Ty
   pub whole : (input : List ℕ) (loose : List (Entry Element)) (turns : ℕ) → (meant is_loose p input loose turns).end ≢ source.Turns →
       (steps : ℕ) × (end : FlatEnd) × (at : FlatState) × (flat_run is_loose ir input loose steps ≡ Stops end at) × (at.weight ≤ 32 * (meant is_loose p input loose turns).work)
 
--- For each node of the source the code has at most 64 units of weight, 64 operations, and two cells of one word for links and
--- temporaries, and 64 units and operations more. The other cells are for the declared variables.
+-- For each node of the source the code with the start has at most 64 units of weight, 64 operations, and two cells of one word for links
+-- and temporaries, and 64 units and operations more. The other cells are for the declared variables.
 pub record IsSmallCode (p : Program) (ir : Ir) : Type 0 where
-  pub weight : weight_of_all ir.ops ≤ 64 * items_count p.items + 64
+  pub weight : start_weight + weight_of_all ir.ops ≤ 64 * items_count p.items + 64
   pub count : length ir.ops ≤ 64 * items_count p.items + 64
   pub temporaries : temporary_cells (plain_program p).functions ≤ 2 * items_count p.items
   pub cells : length ir.cells ≡ length (declared_tokens (plain_program p)) + temporary_cells (plain_program p).functions

@@ -7,9 +7,9 @@ use Rattle.ir_code.specs.declared.Op.{Op}
 use Rattle.region_plan.specs.Homes.{HasHomes, HasSizes}
 use Rattle.std.specs.List.{AllByRecursion}
 use Rattle.codegen.specs.EmittedImage.{HasFirstWords}
-use Rattle.codegen.specs.ImageCode.{code_blocks, code_size, constant_words, entry_of}
+use Rattle.codegen.specs.ImageCode.{code_blocks, code_size, constant_words, offset_of, start_size}
 use Rattle.codegen.specs.Numbers.{AreLow, label_number, sites_in}
-use Rattle.codegen.proofs.CodeSizes.{offset_of-below, offset_of-take}
+use Rattle.codegen.proofs.CodeSizes.{code_size-take-le, offset_of-take}
 use Rattle.codegen.proofs.ConstantSizes.{length-constant_bytes}
 use Rattle.codegen.proofs.Imaging.{images-mean-code}
 use Rattle.codegen.proofs.Plain.{images-are-sound}
@@ -32,7 +32,7 @@ sized c = c.code_size-size.ensures.size ∙ ap code_size c.as_slice-ops.ensures
 
 sizes : (c : After-as_slice) → HasSizes c.in_ok-placement.placement.layout c.args.ir.now (code_blocks c.args.ir.now)
 sizes c =
-    subst (λ (n : ℕ). HasSizes c.in_ok-placement.placement.layout c.args.ir.now ((n + 15) / 16)) (sized c) c.in_ok-placement.ensures.sizes
+    subst (λ (n : ℕ). HasSizes c.in_ok-placement.placement.layout c.args.ir.now ((n + start_size + 15) / 16)) (sized c) c.in_ok-placement.ensures.sizes
 
 low : (c : After-as_slice) → AreLow c.as_slice.result.now c.in_ok-labels.labels
 low c =
@@ -42,8 +42,13 @@ low c =
 pub image_code-requires-clause-low : goal.image_code-requires-clause-low
 image_code-requires-clause-low c = low (goal.at.image_code-requires-clause-low c).After-as_slice
 
--- the number of the first instruction is that of the entry
-entry_is : (c : After-code_size-entry) → c.code_size-entry.result ≡ entry_of c.args.ir.now
+-- the entry is no place after the code
+pub image_code-requires-clause-entry : goal.image_code-requires-clause-entry
+image_code-requires-clause-entry c =
+    omega (arith, c.code_size-entry.ensures.size, c.code_size-size.ensures.size, code_size-take-le c.as_slice-ops.result.now c.args.ir.now.entry)
+
+-- the start goes on at the entry
+entry_is : (c : After-code_size-entry) → c.code_size-entry.result ≡ offset_of c.args.ir.now.ops c.args.ir.now.entry
 entry_is c =
     c.code_size-entry.ensures.size ∙ ap (λ (ops : List Op). code_size (take c.args.ir.now.entry ops)) c.as_slice-ops.ensures
     ∙ sym (offset_of-take c.args.ir.now.ops c.args.ir.now.entry)
@@ -53,16 +58,15 @@ invariant_of-result c =
     let s = sizes (goal.at.invariant_of-result c).After-as_slice in
     let z = sized (goal.at.invariant_of-result c).After-as_slice in
     let shared : c.in_ok-placement.placement.layout.shared % 4 ≡ 0 = omega (arith, s.shared) in
-    let inside : c.code_size-entry.result < 16 * c.in_ok-placement.placement.layout.code =
-    omega (arith, entry_is c, offset_of-below c.args.ir.now.ops c.args.ir.now.entry c.requires.last c.requires.entry, s.code) in
+    let inside : c.code_size-size.result < 16 * c.in_ok-placement.placement.layout.code = omega (arith, s.code, z) in
     let constants : length c.in_ok-constants.constants ≡ 64 * c.in_ok-placement.placement.layout.constants =
     ap length c.in_ok-constants.ensures.value
     ∙ ap (λ (cells : List Cell). length (bytes_of (constant_words cells ++ replicate (16 * c.in_ok-placement.placement.layout.constants - length (constant_words cells)) 0))) c.as_slice-2.ensures
     ∙ length-constant_bytes c.args.ir.now.cells c.in_ok-placement.placement.layout.constants c.requires.first s.constants in
-    let room : c.code_size-size.result ≤ 16 * c.in_ok-placement.placement.layout.code = omega (arith, s.code, z) in
+    let room : c.code_size-size.result + start_size ≤ 16 * c.in_ok-placement.placement.layout.code = omega (arith, s.code, z) in
     let code : length c.in_ok-code.code ≡ 16 * c.in_ok-placement.placement.layout.code =
     length-words c.in_ok-code.code (sites_in c.as_slice.result.now c.in_ok-labels.labels) c.as_slice-ops.result.now c.code_size-size.result
-    (16 * c.in_ok-placement.placement.layout.code) c.code_size-size.ensures.size room c.in_ok-code.ensures.code in
+    c.code_size-entry.result (16 * c.in_ok-placement.placement.layout.code) c.code_size-size.ensures.size room c.in_ok-code.ensures.code in
     record { shared_words = shared; entry_inside = inside; constants_whole = constants; code_whole = code }
 
 pub returns-clause-image : goal.returns-clause-image
@@ -70,11 +74,12 @@ returns-clause-image c =
     let at = (goal.at.returns-clause-image c).After-as_slice in
     record {
       sizes = sizes at;
-      entry = entry_is (goal.at.returns-clause-image c).After-code_size-entry;
+      entry = sized at;
       constants = c.in_ok-constants.ensures.value
           ∙ ap (λ (cells : List Cell). bytes_of (constant_words cells ++ replicate (16 * c.in_ok-placement.placement.layout.constants - length (constant_words cells)) 0)) c.as_slice-2.ensures;
       code = placed-words c.in_ok-placement.placement.layout c.args.ir.now c.as_slice.result.now c.in_ok-labels.labels c.as_slice-ops.result.now c.code_size-size.result
-          c.in_ok-code.code c.requires (has at) (known at) c.as_slice-ops.ensures (sized at) (sizes at).code c.in_ok-code.ensures.code;
+          c.code_size-entry.result c.in_ok-code.code c.requires (has at) (known at) c.as_slice-ops.ensures (sized at) (entry_is (goal.at.returns-clause-image c).After-code_size-entry) (sizes at).code
+          c.in_ok-code.ensures.code;
     }
 
 pub returns-clause-meaning : goal.returns-clause-meaning
