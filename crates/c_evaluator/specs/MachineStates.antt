@@ -18,6 +18,7 @@ use Rattle.c_evaluator.specs.declared.mean_end.MeanEnd.{MeanEnd}
 use Rattle.c_evaluator.specs.declared.mean_end.MeanEnd.TheVariants as mean
 use Rattle.c_evaluator.specs.declared.fault.Fault.{Fault}
 use Rattle.c_evaluator.specs.declared.fault.Fault.TheVariants as fault
+use Rattle.c_evaluator.specs.declared.fault.Stopped.{Stopped}
 
 -- the word of an element, where each variable has a list of words by its token: zero where none was written
 abbrev pub memory_of : List (List ℕ) → ℕ → ℕ → ℕ
@@ -53,41 +54,44 @@ started objects input turns = record { memory = first_memory objects; turns = tu
 abbrev pub placed : ℕ → List ℕ → State → State
 placed token words s = record s { memory = λ x i. cond (token == x) (slice_index words i) (s.memory x i) }
 
--- The evaluator does what the meaning says: it goes on with the value, as it is seen, or ends as it does. Where memory ran out
--- nothing is said.
-abbrev pub DoesAs : {A B : Type 0} → (B → A) → Outcome A → Result B Fault → State → Type 0
-DoesAs view outcome (Ok value) state = outcome ≡ GoesOn (view value) state
-DoesAs view outcome (Err (fault.Index at)) state = outcome ≡ EndsAs (Index at) state
-DoesAs view outcome (Err (fault.Divide at)) state = outcome ≡ EndsAs (Divide at) state
-DoesAs view outcome (Err fault.Turns) state = outcome ≡ EndsAs Turns state
-DoesAs view outcome (Err fault.OutOfMemory) state = Unit {0}
+-- The evaluation is over as the meaning is, by this fault. Where memory ran out nothing is said.
+abbrev pub StopsAs : {A : Type 0} → Outcome A → Fault → State → Type 0
+StopsAs outcome (fault.Index at) state = outcome ≡ EndsAs (Index at) state
+StopsAs outcome (fault.Divide at) state = outcome ≡ EndsAs (Divide at) state
+StopsAs outcome fault.Turns state = outcome ≡ EndsAs Turns state
+StopsAs outcome fault.OutOfMemory state = Unit {0}
+
+-- The evaluator does what the meaning says: it goes on with the value, as it is seen, or stops by the fault that the machine keeps.
+abbrev pub DoesAs : {A B : Type 0} → (B → A) → Outcome A → Result B Stopped → Machine → Type 0
+DoesAs view outcome (Ok value) m = outcome ≡ GoesOn (view value) (seen m)
+DoesAs view outcome (Err stopped) m = StopsAs outcome m.fault (seen m)
 
 -- of a word
-abbrev pub Does : Outcome ℕ → Result ℕ Fault → State → Type 0
-Does outcome result state = DoesAs (λ word. word) outcome result state
+abbrev pub Does : Outcome ℕ → Result ℕ Stopped → Machine → Type 0
+Does outcome result m = DoesAs (λ word. word) outcome result m
 
 -- of words
-abbrev pub DoesWords : Outcome (List ℕ) → Result (Vec ℕ Global) Fault → State → Type 0
-DoesWords outcome result state = DoesAs (λ (words : Vec ℕ Global). words.items) outcome result state
+abbrev pub DoesWords : Outcome (List ℕ) → Result (Vec ℕ Global) Stopped → Machine → Type 0
+DoesWords outcome result m = DoesAs (λ (words : Vec ℕ Global). words.items) outcome result m
 
--- how a statement is left
-abbrev pub flow_of : Flow → Meaning.Flow
-flow_of flow.Completed = Meaning.Completed
-flow_of flow.Broke = Meaning.Broke
-flow_of flow.Continued = Meaning.Continued
-flow_of (flow.Returned value) = Meaning.Returned value
+-- how a statement is left, where the last `return` gave this value
+abbrev pub flow_of : ℕ → Flow → Meaning.Flow
+flow_of returned flow.Completed = Meaning.Completed
+flow_of returned flow.Broke = Meaning.Broke
+flow_of returned flow.Continued = Meaning.Continued
+flow_of returned flow.Returned = Meaning.Returned returned
 
-abbrev pub turn_of : Turn → Meaning.Turn
-turn_of turn.Again = Meaning.Again
-turn_of (turn.Leaves flow) = Meaning.Leaves (flow_of flow)
+abbrev pub turn_of : ℕ → Turn → Meaning.Turn
+turn_of returned turn.Again = Meaning.Again
+turn_of returned (turn.Leaves flow) = Meaning.Leaves (flow_of returned flow)
 
 -- of a statement
-abbrev pub DoesFlow : Outcome Meaning.Flow → Result Flow Fault → State → Type 0
-DoesFlow outcome result state = DoesAs flow_of outcome result state
+abbrev pub DoesFlow : Outcome Meaning.Flow → Result Flow Stopped → Machine → Type 0
+DoesFlow outcome result m = DoesAs (flow_of m.returned) outcome result m
 
 -- of a turn
-abbrev pub DoesTurn : Outcome Meaning.Turn → Result Turn Fault → State → Type 0
-DoesTurn outcome result state = DoesAs turn_of outcome result state
+abbrev pub DoesTurn : Outcome Meaning.Turn → Result Turn Stopped → Machine → Type 0
+DoesTurn outcome result m = DoesAs (turn_of m.returned) outcome result m
 
 -- how a run ends
 abbrev pub end_of : MeanEnd → End
@@ -96,10 +100,10 @@ end_of (mean.Index at) = Index at
 end_of (mean.Divide at) = Divide at
 end_of mean.Turns = Turns
 
--- how the answer of main tells the end of the run
-abbrev pub EndsSo : Result ℕ Fault → Result MeanEnd OutOfMemory → Type 0
-EndsSo (Ok value) answer = answer ≡ Ok mean.Ended
-EndsSo (Err (fault.Index at)) answer = answer ≡ Ok (mean.Index at)
-EndsSo (Err (fault.Divide at)) answer = answer ≡ Ok (mean.Divide at)
-EndsSo (Err fault.Turns) answer = answer ≡ Ok mean.Turns
-EndsSo (Err fault.OutOfMemory) answer = IsErr answer
+-- how the answer of main, and the fault where it is over, tell the end of the run
+abbrev pub EndsSo : Result ℕ Stopped → Fault → Result MeanEnd OutOfMemory → Type 0
+EndsSo (Ok value) fault answer = answer ≡ Ok mean.Ended
+EndsSo (Err stopped) (fault.Index at) answer = answer ≡ Ok (mean.Index at)
+EndsSo (Err stopped) (fault.Divide at) answer = answer ≡ Ok (mean.Divide at)
+EndsSo (Err stopped) fault.Turns answer = answer ≡ Ok mean.Turns
+EndsSo (Err stopped) fault.OutOfMemory answer = IsErr answer

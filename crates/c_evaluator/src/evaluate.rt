@@ -1,5 +1,5 @@
 //! Programs, evaluated by their structure.
-ghost use Rattle.std.specs.Prelude.{◌≡◌, not, ◌==◌, OnOk, IfErr};
+ghost use Rattle.std.specs.Prelude.{◌≡◌, not, ◌==◌, OnOk, OnErr};
 ghost use Rattle.std.specs.Option.{option_copied};
 ghost use Rattle.aegis_num.specs.Operators.{truth};
 ghost use Rattle.c_semantics.specs.States as states;
@@ -9,34 +9,52 @@ ghost use Rattle.c_semantics.specs.ResolvedViews.{expr_of, exprs_of, stmt_of, st
 ghost use Rattle.c_evaluator.specs.Calls.{callable, one_turn};
 ghost use Rattle.c_evaluator.specs.MachineStates.{bare, seen, flow_of, Does, DoesWords, DoesFlow, DoesTurn};
 
-use crate::fault::Fault;
+use crate::fault::{Fault, Stopped};
 use crate::flow::{Flow, Turn};
 use crate::machine::Machine;
-use crate::nesting::{OPEN_CALL, OPEN_FOR, OPEN_OPERATOR, OPEN_PART, deeper};
+use crate::nesting::{OPEN_CALL, OPEN_FOR, OPEN_OPERATOR, OPEN_PART};
 use aegis_num::{BinaryOp, UnaryOp};
 use c_semantics::{Expr, Function, Stmt, Variable};
 use sqlite_items::{Boxed, at};
 
-/// The value of an expression, where these functions can be called. `room` is how much may still be nested.
+/// The value of an expression, where these functions can be called. `room` is how much may still be nested. The two most
+/// frequent forms are told apart first, since they need no frame.
 #[cycle(run)]
 pub fn value_of(
     machine: &mut Machine,
     functions: &[Function],
     e: &Expr,
     room: u32,
-) -> Result<u32, Fault>
-    ensures does { Does (value bare (callable functions.now) (expr_of e.now) (seen machine.old)) result (seen machine.new) }
+) -> Result<u32, Stopped>
+    ensures does { Does (value bare (callable functions.now) (expr_of e.now) (seen machine.old)) result machine.new }
 {
     match e {
-        // The two most frequent forms return at once, which takes a fifth of the time off a loop.
-        Expr::Number { value } => return Ok(*value),
-        Expr::Scalar { variable } => return Ok(machine.read(variable.token, 0)),
+        Expr::Number { value } => Ok(*value),
+        Expr::Scalar { variable } => Ok(machine.read(variable.token, 0)),
+        _ => value_of_form(machine, functions, e, room),
+    }
+}
+
+/// The value of an expression by its form, that of the two most frequent ones too.
+#[cycle(run)]
+#[inline(never)]
+fn value_of_form(
+    machine: &mut Machine,
+    functions: &[Function],
+    e: &Expr,
+    room: u32,
+) -> Result<u32, Stopped>
+    ensures does { Does (value bare (callable functions.now) (expr_of e.now) (seen machine.old)) result machine.new }
+{
+    match e {
+        Expr::Number { value } => Ok(*value),
+        Expr::Scalar { variable } => Ok(machine.read(variable.token, 0)),
         Expr::Indexed {
             at,
             array,
             length,
             index,
-        } => element(machine, functions, *at, *array, *length, index.get(), room),
+        } => element(machine, functions, *at, array, *length, index.get(), room),
         Expr::Called {
             function,
             arguments,
@@ -61,20 +79,23 @@ fn element(
     machine: &mut Machine,
     functions: &[Function],
     at: u32,
-    array: Variable,
+    array: &Variable,
     length: u32,
     index: &Expr,
     room: u32,
-) -> Result<u32, Fault>
-    ensures does { Does (value bare (callable functions.now) (tree.Indexed at array length (expr_of index.now)) (seen machine.old)) result (seen machine.new) }
+) -> Result<u32, Stopped>
+    ensures does { Does (value bare (callable functions.now) (tree.Indexed at array.now length (expr_of index.now)) (seen machine.old)) result machine.new }
 {
-    let inside = deeper(room, OPEN_PART)?;
+    if room < OPEN_PART {
+        return Err(machine.stop(Fault::OutOfMemory));
+    }
+    let inside = room - OPEN_PART;
     let index = value_of(machine, functions, index, inside)?;
     let index = machine.within(at, length, index)?;
     Ok(machine.read(array.token, index))
 }
 
-/// The value of a call, with its arguments.
+/// The value of a call, with its arguments. Up to two of them take no allocation.
 #[cycle(run)]
 #[inline(never)]
 fn call_for_value(
@@ -83,12 +104,29 @@ fn call_for_value(
     number: usize,
     arguments: &[Expr],
     room: u32,
-) -> Result<u32, Fault>
-    ensures does { Does (value bare (callable functions.now) (tree.Called number (exprs_of arguments.now)) (seen machine.old)) result (seen machine.new) }
+) -> Result<u32, Stopped>
+    ensures does { Does (value bare (callable functions.now) (tree.Called number (exprs_of arguments.now)) (seen machine.old)) result machine.new }
 {
-    let inside = deeper(room, OPEN_CALL)?;
-    let words = values_of(machine, functions, arguments, inside)?;
-    call(machine, functions, number, words, inside)
+    if room < OPEN_CALL {
+        return Err(machine.stop(Fault::OutOfMemory));
+    }
+    let inside = room - OPEN_CALL;
+    match arguments {
+        [] => call(machine, functions, number, &[], inside),
+        [only] => {
+            let word = value_of(machine, functions, only, inside)?;
+            call(machine, functions, number, &[word], inside)
+        }
+        [one, other] => {
+            let first = value_of(machine, functions, one, inside)?;
+            let second = value_of(machine, functions, other, inside)?;
+            call(machine, functions, number, &[first, second], inside)
+        }
+        _ => {
+            let words = values_of(machine, functions, arguments, inside)?;
+            call(machine, functions, number, words.as_slice(), inside)
+        }
+    }
 }
 
 /// The value of an operator of one operand.
@@ -99,10 +137,13 @@ fn unary(
     op: UnaryOp,
     inner: &Expr,
     room: u32,
-) -> Result<u32, Fault>
-    ensures does { Does (value bare (callable functions.now) (tree.Unary op (expr_of inner.now)) (seen machine.old)) result (seen machine.new) }
+) -> Result<u32, Stopped>
+    ensures does { Does (value bare (callable functions.now) (tree.Unary op (expr_of inner.now)) (seen machine.old)) result machine.new }
 {
-    let inside = deeper(room, OPEN_OPERATOR)?;
+    if room < OPEN_OPERATOR {
+        return Err(machine.stop(Fault::OutOfMemory));
+    }
+    let inside = room - OPEN_OPERATOR;
     let word = value_of(machine, functions, inner, inside)?;
     Ok(op.apply(word))
 }
@@ -117,13 +158,16 @@ fn binary(
     left: &Expr,
     right: &Expr,
     room: u32,
-) -> Result<u32, Fault>
-    ensures does { Does (value bare (callable functions.now) (tree.Binary at op (expr_of left.now) (expr_of right.now)) (seen machine.old)) result (seen machine.new) }
+) -> Result<u32, Stopped>
+    ensures does { Does (value bare (callable functions.now) (tree.Binary at op (expr_of left.now) (expr_of right.now)) (seen machine.old)) result machine.new }
 {
-    let inside = deeper(room, OPEN_OPERATOR)?;
+    if room < OPEN_OPERATOR {
+        return Err(machine.stop(Fault::OutOfMemory));
+    }
+    let inside = room - OPEN_OPERATOR;
     let first = value_of(machine, functions, left, inside)?;
     let second = value_of(machine, functions, right, inside)?;
-    applied(at, op, first, second)
+    applied(machine, at, op, first, second)
 }
 
 /// The value of `&&`.
@@ -135,10 +179,13 @@ fn both(
     left: &Expr,
     right: &Expr,
     room: u32,
-) -> Result<u32, Fault>
-    ensures does { Does (value bare (callable functions.now) (tree.Both (expr_of left.now) (expr_of right.now)) (seen machine.old)) result (seen machine.new) }
+) -> Result<u32, Stopped>
+    ensures does { Does (value bare (callable functions.now) (tree.Both (expr_of left.now) (expr_of right.now)) (seen machine.old)) result machine.new }
 {
-    let inside = deeper(room, OPEN_PART)?;
+    if room < OPEN_PART {
+        return Err(machine.stop(Fault::OutOfMemory));
+    }
+    let inside = room - OPEN_PART;
     let word = value_of(machine, functions, left, inside)?;
     if word == 0 {
         return Ok(0);
@@ -156,10 +203,13 @@ fn either(
     left: &Expr,
     right: &Expr,
     room: u32,
-) -> Result<u32, Fault>
-    ensures does { Does (value bare (callable functions.now) (tree.Either (expr_of left.now) (expr_of right.now)) (seen machine.old)) result (seen machine.new) }
+) -> Result<u32, Stopped>
+    ensures does { Does (value bare (callable functions.now) (tree.Either (expr_of left.now) (expr_of right.now)) (seen machine.old)) result machine.new }
 {
-    let inside = deeper(room, OPEN_PART)?;
+    if room < OPEN_PART {
+        return Err(machine.stop(Fault::OutOfMemory));
+    }
+    let inside = room - OPEN_PART;
     let word = value_of(machine, functions, left, inside)?;
     if word != 0 {
         return Ok(1);
@@ -175,13 +225,15 @@ fn values_of(
     functions: &[Function],
     es: &[Expr],
     room: u32,
-) -> Result<Vec<u32>, Fault>
-    ensures does { DoesWords (values bare (callable functions.now) (exprs_of es.now) (seen machine.old)) result (seen machine.new) }
+) -> Result<Vec<u32>, Stopped>
+    ensures does { DoesWords (values bare (callable functions.now) (exprs_of es.now) (seen machine.old)) result machine.new }
 {
     let mut words = Vec::new(machine.alloc());
     for e in es {
         let word = value_of(machine, functions, e, room)?;
-        words.push(word)?;
+        if words.push(word).is_err() {
+            return Err(machine.stop(Fault::OutOfMemory));
+        }
     }
     Ok(words)
 }
@@ -192,22 +244,22 @@ pub fn call(
     machine: &mut Machine,
     functions: &[Function],
     number: usize,
-    words: Vec<u32>,
+    words: &[u32],
     room: u32,
-) -> Result<u32, Fault>
-    ensures does { Does (callable functions.now number words.items (seen machine.old)) result (seen machine.new) }
+) -> Result<u32, Stopped>
+    ensures does { Does (callable functions.now number words.now (seen machine.old)) result machine.new }
 {
     match at(functions, number) {
         None => Ok(0),
         Some(function) => {
-            give(machine, function.parameters.as_slice(), words.as_slice())?;
+            give(machine, function.parameters.as_slice(), words)?;
             let flow = statements(
                 machine,
                 &functions[..number],
                 function.body.as_slice(),
                 room,
             )?;
-            Ok(result_of(flow))
+            Ok(result_of(flow, machine.returned()))
         }
     }
 }
@@ -219,8 +271,8 @@ fn statements(
     functions: &[Function],
     ss: &[Stmt],
     room: u32,
-) -> Result<Flow, Fault>
-    ensures does { DoesFlow (meaning bare (callable functions.now) (stmts_of ss.now) (seen machine.old)) result (seen machine.new) }
+) -> Result<Flow, Stopped>
+    ensures does { DoesFlow (meaning bare (callable functions.now) (stmts_of ss.now) (seen machine.old)) result machine.new }
 {
     for s in ss {
         let flow = statement(machine, functions, s, room)?;
@@ -238,21 +290,21 @@ fn statement(
     functions: &[Function],
     s: &Stmt,
     room: u32,
-) -> Result<Flow, Fault>
-    ensures does { DoesFlow (meaning bare (callable functions.now) (stmt_of s.now) (seen machine.old)) result (seen machine.new) }
+) -> Result<Flow, Stopped>
+    ensures does { DoesFlow (meaning bare (callable functions.now) (stmt_of s.now) (seen machine.old)) result machine.new }
 {
     match s {
         Stmt::Empty | Stmt::Suspend | Stmt::Check => Ok(Flow::Completed),
         Stmt::Block { body } => block(machine, functions, body.as_slice(), room),
-        Stmt::Local { variable, value } => local(machine, functions, *variable, value, room),
-        Stmt::Assign { variable, value } => assign(machine, functions, *variable, value, room),
+        Stmt::Local { variable, value } => local(machine, functions, variable, value, room),
+        Stmt::Assign { variable, value } => assign(machine, functions, variable, value, room),
         Stmt::Store {
             at,
             array,
             length,
             index,
             value,
-        } => store(machine, functions, *at, *array, *length, index, value, room),
+        } => store(machine, functions, *at, array, *length, index, value, room),
         Stmt::Call {
             function,
             arguments,
@@ -289,10 +341,13 @@ fn block(
     functions: &[Function],
     body: &[Stmt],
     room: u32,
-) -> Result<Flow, Fault>
-    ensures does { DoesFlow (meaning bare (callable functions.now) (tree.Block (stmts_of body.now)) (seen machine.old)) result (seen machine.new) }
+) -> Result<Flow, Stopped>
+    ensures does { DoesFlow (meaning bare (callable functions.now) (tree.Block (stmts_of body.now)) (seen machine.old)) result machine.new }
 {
-    let inside = deeper(room, OPEN_PART)?;
+    if room < OPEN_PART {
+        return Err(machine.stop(Fault::OutOfMemory));
+    }
+    let inside = room - OPEN_PART;
     statements(machine, functions, body, inside)
 }
 
@@ -302,11 +357,11 @@ fn block(
 fn local(
     machine: &mut Machine,
     functions: &[Function],
-    variable: Variable,
+    variable: &Variable,
     value: &Option<Expr>,
     room: u32,
-) -> Result<Flow, Fault>
-    ensures does { DoesFlow (meaning bare (callable functions.now) (tree.Local variable (part_of value.now)) (seen machine.old)) result (seen machine.new) }
+) -> Result<Flow, Stopped>
+    ensures does { DoesFlow (meaning bare (callable functions.now) (tree.Local variable.now (part_of value.now)) (seen machine.old)) result machine.new }
 {
     let word = value_or_zero(machine, functions, value, room)?;
     machine.write(variable, 0, word)?;
@@ -319,11 +374,11 @@ fn local(
 fn assign(
     machine: &mut Machine,
     functions: &[Function],
-    variable: Variable,
+    variable: &Variable,
     value: &Expr,
     room: u32,
-) -> Result<Flow, Fault>
-    ensures does { DoesFlow (meaning bare (callable functions.now) (tree.Assign variable (expr_of value.now)) (seen machine.old)) result (seen machine.new) }
+) -> Result<Flow, Stopped>
+    ensures does { DoesFlow (meaning bare (callable functions.now) (tree.Assign variable.now (expr_of value.now)) (seen machine.old)) result machine.new }
 {
     let word = value_of(machine, functions, value, room)?;
     machine.write(variable, 0, word)?;
@@ -337,13 +392,13 @@ fn store(
     machine: &mut Machine,
     functions: &[Function],
     at: u32,
-    array: Variable,
+    array: &Variable,
     length: u32,
     index: &Expr,
     value: &Expr,
     room: u32,
-) -> Result<Flow, Fault>
-    ensures does { DoesFlow (meaning bare (callable functions.now) (tree.Store at array length (expr_of index.now) (expr_of value.now)) (seen machine.old)) result (seen machine.new) }
+) -> Result<Flow, Stopped>
+    ensures does { DoesFlow (meaning bare (callable functions.now) (tree.Store at array.now length (expr_of index.now) (expr_of value.now)) (seen machine.old)) result machine.new }
 {
     let index = value_of(machine, functions, index, room)?;
     let place = machine.within(at, length, index)?;
@@ -361,12 +416,10 @@ fn call_alone(
     number: usize,
     arguments: &[Expr],
     room: u32,
-) -> Result<Flow, Fault>
-    ensures does { DoesFlow (meaning bare (callable functions.now) (tree.Call number (exprs_of arguments.now)) (seen machine.old)) result (seen machine.new) }
+) -> Result<Flow, Stopped>
+    ensures does { DoesFlow (meaning bare (callable functions.now) (tree.Call number (exprs_of arguments.now)) (seen machine.old)) result machine.new }
 {
-    let inside = deeper(room, OPEN_CALL)?;
-    let words = values_of(machine, functions, arguments, inside)?;
-    call(machine, functions, number, words, inside)?;
+    call_for_value(machine, functions, number, arguments, room)?;
     Ok(Flow::Completed)
 }
 
@@ -378,8 +431,8 @@ fn release(
     functions: &[Function],
     value: &Expr,
     room: u32,
-) -> Result<Flow, Fault>
-    ensures does { DoesFlow (meaning bare (callable functions.now) (tree.Release (expr_of value.now)) (seen machine.old)) result (seen machine.new) }
+) -> Result<Flow, Stopped>
+    ensures does { DoesFlow (meaning bare (callable functions.now) (tree.Release (expr_of value.now)) (seen machine.old)) result machine.new }
 {
     let word = value_of(machine, functions, value, room)?;
     machine.release(word)?;
@@ -394,11 +447,12 @@ fn leave(
     functions: &[Function],
     value: &Option<Expr>,
     room: u32,
-) -> Result<Flow, Fault>
-    ensures does { DoesFlow (meaning bare (callable functions.now) (tree.Return (part_of value.now)) (seen machine.old)) result (seen machine.new) }
+) -> Result<Flow, Stopped>
+    ensures does { DoesFlow (meaning bare (callable functions.now) (tree.Return (part_of value.now)) (seen machine.old)) result machine.new }
 {
     let word = value_or_zero(machine, functions, value, room)?;
-    Ok(Flow::Returned(word))
+    machine.give_back(word);
+    Ok(Flow::Returned)
 }
 
 /// What `if` does.
@@ -411,10 +465,13 @@ fn choice(
     body: &Stmt,
     other: &Option<Boxed<Stmt>>,
     room: u32,
-) -> Result<Flow, Fault>
-    ensures does { DoesFlow (meaning bare (callable functions.now) (tree.If (expr_of test.now) (stmt_of body.now) (branch_of other.now)) (seen machine.old)) result (seen machine.new) }
+) -> Result<Flow, Stopped>
+    ensures does { DoesFlow (meaning bare (callable functions.now) (tree.If (expr_of test.now) (stmt_of body.now) (branch_of other.now)) (seen machine.old)) result machine.new }
 {
-    let inside = deeper(room, OPEN_PART)?;
+    if room < OPEN_PART {
+        return Err(machine.stop(Fault::OutOfMemory));
+    }
+    let inside = room - OPEN_PART;
     let word = value_of(machine, functions, test, inside)?;
     if word == 0 {
         return branch(machine, functions, other, inside);
@@ -433,10 +490,13 @@ fn for_loop(
     step: &Option<Boxed<Stmt>>,
     body: &Stmt,
     room: u32,
-) -> Result<Flow, Fault>
-    ensures does { DoesFlow (meaning bare (callable functions.now) (tree.For (branch_of first.now) (part_of (option_copied test.entry)) (branch_of step.now) (stmt_of body.now)) (seen machine.old)) result (seen machine.new) }
+) -> Result<Flow, Stopped>
+    ensures does { DoesFlow (meaning bare (callable functions.now) (tree.For (branch_of first.now) (part_of (option_copied test.entry)) (branch_of step.now) (stmt_of body.now)) (seen machine.old)) result machine.new }
 {
-    let inside = deeper(room, OPEN_FOR)?;
+    if room < OPEN_FOR {
+        return Err(machine.stop(Fault::OutOfMemory));
+    }
+    let inside = room - OPEN_FOR;
     branch(machine, functions, first, inside)?;
     repeat(machine, functions, test, step, body, inside)
 }
@@ -448,8 +508,8 @@ fn value_or_zero(
     functions: &[Function],
     e: &Option<Expr>,
     room: u32,
-) -> Result<u32, Fault>
-    ensures does { Does (value_or_zero bare (callable functions.now) (part_of e.now) (seen machine.old)) result (seen machine.new) }
+) -> Result<u32, Stopped>
+    ensures does { Does (value_or_zero bare (callable functions.now) (part_of e.now) (seen machine.old)) result machine.new }
 {
     match e {
         None => Ok(0),
@@ -464,8 +524,8 @@ fn branch(
     functions: &[Function],
     s: &Option<Boxed<Stmt>>,
     room: u32,
-) -> Result<Flow, Fault>
-    ensures does { DoesFlow (meaning bare (callable functions.now) (branch_of s.now) (seen machine.old)) result (seen machine.new) }
+) -> Result<Flow, Stopped>
+    ensures does { DoesFlow (meaning bare (callable functions.now) (branch_of s.now) (seen machine.old)) result machine.new }
 {
     match s {
         None => Ok(Flow::Completed),
@@ -482,10 +542,13 @@ fn repeat(
     step: &Option<Boxed<Stmt>>,
     body: &Stmt,
     room: u32,
-) -> Result<Flow, Fault>
-    ensures does { DoesFlow (loop (one_turn functions.now (option_copied test.entry) step.now body.now) (seen machine.old)) result (seen machine.new) }
+) -> Result<Flow, Stopped>
+    ensures does { DoesFlow (loop (one_turn functions.now (option_copied test.entry) step.now body.now) (seen machine.old)) result machine.new }
 {
-    let inside = deeper(room, OPEN_PART)?;
+    if room < OPEN_PART {
+        return Err(machine.stop(Fault::OutOfMemory));
+    }
+    let inside = room - OPEN_PART;
     let mut rounds = machine.turns();
     loop {
         match turn(machine, functions, test, step, body, inside)? {
@@ -493,7 +556,7 @@ fn repeat(
             Turn::Leaves(flow) => return Ok(flow),
         }
         if rounds == 0 {
-            return Err(Fault::Turns);
+            return Err(machine.stop(Fault::Turns));
         }
         rounds -= 1;
     }
@@ -508,8 +571,8 @@ fn turn(
     step: &Option<Boxed<Stmt>>,
     body: &Stmt,
     room: u32,
-) -> Result<Turn, Fault>
-    ensures does { DoesTurn (one_turn functions.now (option_copied test.entry) step.now body.now (seen machine.old)) result (seen machine.new) }
+) -> Result<Turn, Stopped>
+    ensures does { DoesTurn (one_turn functions.now (option_copied test.entry) step.now body.now (seen machine.old)) result machine.new }
 {
     let word = match test {
         None => 1,
@@ -521,7 +584,7 @@ fn turn(
     machine.begin_turn()?;
     match statement(machine, functions, body, room)? {
         Flow::Broke => Ok(Turn::Leaves(Flow::Completed)),
-        Flow::Returned(word) => Ok(Turn::Leaves(Flow::Returned(word))),
+        Flow::Returned => Ok(Turn::Leaves(Flow::Returned)),
         Flow::Completed | Flow::Continued => {
             branch(machine, functions, step, room)?;
             Ok(Turn::Again)
@@ -530,11 +593,17 @@ fn turn(
 }
 
 /// The value of an operator of two operands, where it has one.
-fn applied(at: u32, op: BinaryOp, left: u32, right: u32) -> Result<u32, Fault>
-    ensures does { (s : states.State) → Does (states.applied at op left right s) result s }
+fn applied(
+    machine: &mut Machine,
+    at: u32,
+    op: BinaryOp,
+    left: u32,
+    right: u32,
+) -> Result<u32, Stopped>
+    ensures does { Does (states.applied at op left right (seen machine.old)) result machine.new }
 {
     if op.traps(right) {
-        return Err(Fault::Divide { at });
+        return Err(machine.stop(Fault::Divide { at }));
     }
     Ok(op.apply(left, right))
 }
@@ -546,23 +615,23 @@ fn truth_of(word: u32) -> u32
     if word == 0 { 0 } else { 1 }
 }
 
-/// The value of a call: what was returned, or zero.
-fn result_of(flow: Flow) -> u32
-    ensures { result ≡ result_of (flow_of flow) }
+/// The value of a call, which was left so: what was returned, or zero.
+fn result_of(flow: Flow, returned: u32) -> u32
+    ensures { result ≡ result_of (flow_of returned flow) }
 {
     match flow {
-        Flow::Returned(word) => word,
+        Flow::Returned => returned,
         _ => 0,
     }
 }
 
 /// The parameters get the arguments.
-fn give(machine: &mut Machine, parameters: &[Variable], words: &[u32]) -> Result<(), Fault>
+fn give(machine: &mut Machine, parameters: &[Variable], words: &[u32]) -> Result<(), Stopped>
     ensures given { OnOk result (seen machine.new ≡ given bare parameters.now words.now (seen machine.old)) }
-    ensures err { IfErr result (λ fault. fault ≡ Fault.OutOfMemory) }
+    ensures err { OnErr result (machine.new.fault ≡ Fault.OutOfMemory) }
 {
     for i in 0..parameters.len().min(words.len()) {
-        machine.write(parameters[i], 0, words[i])?;
+        machine.write(&parameters[i], 0, words[i])?;
     }
     Ok(())
 }

@@ -1,5 +1,4 @@
 //! Why an evaluation is over.
-use std::alloc::{AllocError, AllocFailed};
 
 /// Why an evaluation is over before its end.
 #[derive(Clone, Copy, Debug, PartialEq, Eq)]
@@ -14,24 +13,6 @@ pub enum Fault {
     OutOfMemory,
 }
 
-impl From<AllocError> for Fault {
-    ghost use Rattle.std.specs.Prelude.{◌≡◌};
-    ghost use Rattle.c_evaluator.specs.declared.fault.Fault.TheVariants.{OutOfMemory};
-
-    ghost from_gives = { λ _ fault. fault ≡ OutOfMemory };
-
-    fn from(_error: AllocError) -> Fault {
-        Fault::OutOfMemory
-    }
-}
-
-impl<T: Drop> From<AllocFailed<T>> for Fault {
-    ghost use Rattle.std.specs.Prelude.{◌≡◌};
-    ghost use Rattle.c_evaluator.specs.declared.fault.Fault.TheVariants.{OutOfMemory};
-
-    ghost from_gives = { λ _ fault. fault ≡ OutOfMemory };
-
-    fn from(_error: AllocFailed<T>) -> Fault {
-        Fault::OutOfMemory
-    }
-}
+/// An evaluation is over before its end. The machine keeps the fault, so that the answer of each step fits in registers.
+#[derive(Clone, Copy, Debug, PartialEq, Eq)]
+pub struct Stopped;

@@ -9,8 +9,8 @@ pub enum Flow {
     Broke,
     /// By `continue`.
     Continued,
-    /// By `return`, with a value.
-    Returned(u32),
+    /// By `return`, with the value that the machine keeps.
+    Returned,
 }
 
 /// What comes after a turn of a loop.

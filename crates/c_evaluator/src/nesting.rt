@@ -2,9 +2,6 @@
 //!
 //! What is open at a place counts by the part of the stack that it takes at most, in units of 128 bytes: an operator of
 //! arithmetic 1; an index, `&&`, `||`, a block, an `if` and a `while` 2; a `for` 3; a call 5.
-ghost use Rattle.std.specs.Prelude.{◌≡◌, IfErr};
-
-use crate::fault::Fault;
 
 /// What an operator of arithmetic counts that is open.
 pub const OPEN_OPERATOR: u32 = 1;
@@ -16,13 +13,3 @@ pub const OPEN_FOR: u32 = 1;
 pub const OPEN_CALL: u32 = 5;
 /// How much may be open: less than 6 MiB of the stack.
 pub const MAX_OPEN: u32 = 48_000;
-
-/// How much may still be open inside something that counts so much.
-pub fn deeper(room: u32, count: u32) -> Result<u32, Fault>
-    ensures err { IfErr result (λ fault. fault ≡ Fault.OutOfMemory) }
-{
-    if room < count {
-        return Err(Fault::OutOfMemory);
-    }
-    Ok(room - count)
-}

@@ -5,7 +5,7 @@ ghost use Rattle.c_semantics.specs.ResolvedViews.{program_of};
 ghost use Rattle.c_evaluator.specs.MachineStates.{end_of, EndsSo};
 
 use crate::evaluate::call;
-use crate::fault::Fault;
+use crate::fault::{Fault, Stopped};
 use crate::machine::Machine;
 use crate::mean_end::MeanEnd;
 use crate::nesting::MAX_OPEN;
@@ -30,26 +30,27 @@ pub fn mean_resolved(
     ensures err { OnErr result (out.new.items ≡ out.old.items) }
 {
     let mut machine = Machine::new(alloc, program.objects.as_slice(), input, turns)?;
-    let end = ending(call(
+    let value = call(
         &mut machine,
         program.functions.as_slice(),
         program.main,
-        Vec::new(alloc),
+        &[],
         MAX_OPEN,
-    ))?;
+    );
+    let end = ending(value, machine.fault())?;
     out.extend_from_slice(machine.released())?;
     Ok(end)
 }
 
-/// How a run ends whose `main` answers so.
-fn ending(value: Result<u32, Fault>) -> Result<MeanEnd, OutOfMemory>
-    ensures { EndsSo value result }
+/// How a run ends whose `main` answers so, where it has this fault if it is over.
+fn ending(value: Result<u32, Stopped>, fault: Fault) -> Result<MeanEnd, OutOfMemory>
+    ensures { EndsSo value fault result }
 {
-    match value {
-        Ok(_) => Ok(MeanEnd::Ended),
-        Err(Fault::Index { at }) => Ok(MeanEnd::Index { at }),
-        Err(Fault::Divide { at }) => Ok(MeanEnd::Divide { at }),
-        Err(Fault::Turns) => Ok(MeanEnd::Turns),
-        Err(Fault::OutOfMemory) => Err(OutOfMemory),
+    match (value, fault) {
+        (Ok(_), _) => Ok(MeanEnd::Ended),
+        (Err(_), Fault::Index { at }) => Ok(MeanEnd::Index { at }),
+        (Err(_), Fault::Divide { at }) => Ok(MeanEnd::Divide { at }),
+        (Err(_), Fault::Turns) => Ok(MeanEnd::Turns),
+        (Err(_), Fault::OutOfMemory) => Err(OutOfMemory),
     }
 }
