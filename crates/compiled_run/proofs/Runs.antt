@@ -23,7 +23,8 @@ use Rattle.flat_machine.specs.declared.ran.ImageEnd.TheVariants.{Ended, Index, D
 use Rattle.flat_machine.specs.ImageRuns.{EndsAfter, GoesOn, IsCutShort, machine_run, released_in}
 use Rattle.flat_machine.specs.ImageRuns as flat
 use Rattle.compiler.specs.CompilerTheorem.{IsCompiled, machine_end}
-use Rattle.compiled_run.specs.RunMeaning.{Suffices, RunEnds, RunUsesUp, RunIsCut, RunsAsMeant, meaning_with}
+use Rattle.compiled_run.specs.RunMeaning.{Suffices, RunEnds, RunUsesUp, RunsAsMeant, meaning_with}
+use Rattle.compiled_run.specs.RunSteps.{RunsInSteps}
 
 -- ---- ends
 
@@ -128,7 +129,7 @@ ends_within program image input fuel compiled enough =
 
 run_ends : (program : Program) (image : Image) (input : List ℕ) (fuel : ℕ) (ending : source.End) (end : IdealEnd) (retired : ℕ) (old new : Option (List ℕ))
     → IsCompiled program image → ((e : source.End) → machine_end e ≡ Some end → e ≡ ending) → EndsAfter image input retired end → retired ≤ fuel
-    → Appends old new (released_in image input retired) → RunEnds program image input fuel ending end retired old new
+    → Appends old new (released_in image input retired) → RunEnds program input fuel ending old new
 run_ends program image input fuel ending end retired old new compiled only ends within sent =
     let stops : machine_run image input fuel ≡ Stops end ends.0 = stays image input fuel retired end ends.0 ends.1.ended within in
     let meant = compiled.alone.ended input [] fuel end ends.0 stops in
@@ -137,8 +138,6 @@ run_ends program image input fuel ending end retired old new compiled only ends 
     record {
       ended = only (meaning_with program input fuel).end meant.ending;
       bytes = appends_same old new (released_in image input retired) (meaning_with program input fuel).traffic.bytes bytes sent;
-      steps = ends;
-      within = within;
       whole = λ enough.
           let there = ends_within program image input fuel compiled enough in
           let P : IdealEnd → Type 0 = λ end. machine_end (mean_alone (plain_program program) input fuel).end ≡ Some end in
@@ -159,63 +158,77 @@ grows image input fuel retired within =
     let longer = run-extends image.layout nothing_loose retired (fuel - retired) (ideal_start image.layout (static_bytes image) image.entry input []) in
     subst P all (longer.bytes.0, longer.bytes.1)
 
-run_uses_up : (program : Program) (image : Image) (input : List ℕ) (fuel retired : ℕ) (old new : Option (List ℕ)) → IsCompiled program image → GoesOn image input fuel
-    → retired ≡ fuel → Appends old new (released_in image input retired) → RunUsesUp program image input fuel retired old new
-run_uses_up program image input fuel retired old new compiled running all sent =
-    let P : ℕ → Type 0 = λ k. Appends old new (released_in image input k) in
-    let here : Appends old new (released_in image input fuel) = subst P all sent in
+-- with all the fuel
+sent_with_all : (image : Image) (input : List ℕ) (fuel retired : ℕ) (old new : Option (List ℕ)) → retired ≡ fuel → Appends old new (released_in image input retired)
+    → Appends old new (released_in image input fuel)
+sent_with_all image input fuel retired old new all sent = let P : ℕ → Type 0 = λ k. Appends old new (released_in image input k) in subst P all sent
+
+run_uses_up : (program : Program) (image : Image) (input : List ℕ) (fuel : ℕ) (old new : Option (List ℕ)) → IsCompiled program image → GoesOn image input fuel
+    → Appends old new (released_in image input fuel) → RunUsesUp program input fuel old new
+run_uses_up program image input fuel old new compiled running sent =
     let rest = begins program image input fuel compiled in
     record {
-      all = all;
-      running = running;
-      released = here;
-      bytes = front_of old new (released_in image input fuel) rest.0 (meaning_with program input fuel).traffic.bytes rest.1 here;
+      bytes = front_of old new (released_in image input fuel) rest.0 (meaning_with program input fuel).traffic.bytes rest.1 sent;
       lacking = λ enough.
           let there = ends_within program image input fuel compiled enough in
           goes_on (machine_run image input fuel) there.end there.at running.0 running.1 there.stops;
     }
 
 run_is_cut : (program : Program) (image : Image) (input : List ℕ) (fuel retired : ℕ) (old new : Option (List ℕ)) → IsCompiled program image
-    → IsCutShort image input fuel retired old new → RunIsCut program image input fuel retired old new
+    → IsCutShort image input fuel retired old new → AppendsFront old new (meaning_with program input fuel).traffic.bytes
 run_is_cut program image input fuel retired old new compiled cut =
     let rest = begins program image input fuel compiled in
     let longer = grows image input fuel retired cut.within in
     let whole : (meaning_with program input fuel).traffic.bytes ≡ (released_in image input cut.before ++ cut.byte ∷ []) ++ (longer.0 ++ rest.0) =
     rest.1 ∙ ap (λ bytes. bytes ++ rest.0) longer.1 ∙ append_assoc (released_in image input retired) longer.0 rest.0
     ∙ ap (λ bytes. bytes ++ (longer.0 ++ rest.0)) cut.released in
-    record {
-      last = cut;
-      bytes = front_with_one old cut.middle new (released_in image input cut.before) (longer.0 ++ rest.0) (meaning_with program input fuel).traffic.bytes cut.byte whole cut.taken cut.front;
-    }
+    front_with_one old cut.middle new (released_in image input cut.before) (longer.0 ++ rest.0) (meaning_with program input fuel).traffic.bytes cut.byte whole cut.taken cut.front
 
--- what a run of the image comes to is what the source means
-runs_as_meant : (program : Program) (image : Image) (input : List ℕ) (fuel : ℕ) (end : ImageEnd) (retired : ℕ) (old new : Option (List ℕ)) → IsCompiled program image
+-- what a run of the image comes to is what the machine does
+runs_in_steps : (image : Image) (input : List ℕ) (fuel : ℕ) (end : ImageEnd) (retired : ℕ) (old new : Option (List ℕ))
     → ((e : IdealEnd) → flat.machine_end end ≡ Some e → EndsAfter image input retired e × (retired ≤ fuel))
     → (end ≡ FuelOut → GoesOn image input fuel × (retired ≡ fuel))
     → (end ≢ WriteFault → Appends old new (released_in image input retired))
     → (end ≡ WriteFault → IsCutShort image input fuel retired old new)
-    → RunsAsMeant program image input fuel end retired old new
-runs_as_meant program image input fuel Ended retired old new compiled ended out sent cut =
-    let ends = ended machine.Ended refl in
-    run_ends program image input fuel source.Ended machine.Ended retired old new compiled ends_alike ends.0 ends.1 (sent (λ same. cc))
-runs_as_meant program image input fuel (Index at) retired old new compiled ended out sent cut =
-    let ends = ended (machine.Index at) refl in
-    run_ends program image input fuel (source.Index at) (machine.Index at) retired old new compiled (index_alike at) ends.0 ends.1 (sent (λ same. cc))
-runs_as_meant program image input fuel (Divide at) retired old new compiled ended out sent cut =
-    let ends = ended (machine.Divide at) refl in
-    run_ends program image input fuel (source.Divide at) (machine.Divide at) retired old new compiled (divide_alike at) ends.0 ends.1 (sent (λ same. cc))
-runs_as_meant program image input fuel FuelOut retired old new compiled ended out sent cut =
+    → RunsInSteps image input fuel end retired old new
+runs_in_steps image input fuel Ended retired old new ended out sent cut = ended machine.Ended refl
+runs_in_steps image input fuel (Index at) retired old new ended out sent cut = ended (machine.Index at) refl
+runs_in_steps image input fuel (Divide at) retired old new ended out sent cut = ended (machine.Divide at) refl
+runs_in_steps image input fuel FuelOut retired old new ended out sent cut =
     let uses = out refl in
-    run_uses_up program image input fuel retired old new compiled uses.0 uses.1 (sent (λ same. cc))
-runs_as_meant program image input fuel WriteFault retired old new compiled ended out sent cut =
-    run_is_cut program image input fuel retired old new compiled (cut refl)
+    record { all = uses.1; running = uses.0; released = sent_with_all image input fuel retired old new uses.1 (sent (λ same. cc)) }
+runs_in_steps image input fuel WriteFault retired old new ended out sent cut = cut refl
+
+-- and that is what the source means
+runs_as_meant : (program : Program) (image : Image) (input : List ℕ) (fuel : ℕ) (end : ImageEnd) (retired : ℕ) (old new : Option (List ℕ)) → IsCompiled program image
+    → (end ≢ WriteFault → Appends old new (released_in image input retired)) → RunsInSteps image input fuel end retired old new
+    → RunsAsMeant program input fuel end old new
+runs_as_meant program image input fuel Ended retired old new compiled sent steps =
+    run_ends program image input fuel source.Ended machine.Ended retired old new compiled ends_alike steps.0 steps.1 (sent (λ same. cc))
+runs_as_meant program image input fuel (Index at) retired old new compiled sent steps =
+    run_ends program image input fuel (source.Index at) (machine.Index at) retired old new compiled (index_alike at) steps.0 steps.1 (sent (λ same. cc))
+runs_as_meant program image input fuel (Divide at) retired old new compiled sent steps =
+    run_ends program image input fuel (source.Divide at) (machine.Divide at) retired old new compiled (divide_alike at) steps.0 steps.1 (sent (λ same. cc))
+runs_as_meant program image input fuel FuelOut retired old new compiled sent steps =
+    run_uses_up program image input fuel old new compiled steps.running steps.released
+runs_as_meant program image input fuel WriteFault retired old new compiled sent steps = run_is_cut program image input fuel retired old new compiled steps
 
 -- where the run was made
+pub ran_in_steps : (image : Image) (input : List ℕ) (fuel : ℕ) (found : Result Ran OutOfMemory) (old new : Option (List ℕ))
+    → IfOk found (λ ran. (e : IdealEnd) → flat.machine_end ran.end ≡ Some e → EndsAfter image input ran.retired e × (ran.retired ≤ fuel))
+    → IfOk found (λ ran. ran.end ≡ FuelOut → GoesOn image input fuel × (ran.retired ≡ fuel))
+    → IfOk found (λ ran. ran.end ≢ WriteFault → Appends old new (released_in image input ran.retired))
+    → IfOk found (λ ran. ran.end ≡ WriteFault → IsCutShort image input fuel ran.retired old new)
+    → IfOk found (λ ran. RunsInSteps image input fuel ran.end ran.retired old new)
+ran_in_steps image input fuel (Err error) old new ended out sent cut = tt
+ran_in_steps image input fuel (Ok ran) old new ended out sent cut = runs_in_steps image input fuel ran.end ran.retired old new ended out sent cut
+
 pub ran_as_meant : (image : Image) (input : List ℕ) (fuel : ℕ) (found : Result Ran OutOfMemory) (old new : Option (List ℕ))
     → IfOk found (λ ran. (e : IdealEnd) → flat.machine_end ran.end ≡ Some e → EndsAfter image input ran.retired e × (ran.retired ≤ fuel))
     → IfOk found (λ ran. ran.end ≡ FuelOut → GoesOn image input fuel × (ran.retired ≡ fuel))
     → IfOk found (λ ran. ran.end ≢ WriteFault → Appends old new (released_in image input ran.retired))
     → IfOk found (λ ran. ran.end ≡ WriteFault → IsCutShort image input fuel ran.retired old new)
-    → IfOk found (λ ran. (program : Program) → IsCompiled program image → RunsAsMeant program image input fuel ran.end ran.retired old new)
+    → IfOk found (λ ran. (program : Program) → IsCompiled program image → RunsAsMeant program input fuel ran.end old new)
 ran_as_meant image input fuel (Err error) old new ended out sent cut = tt
-ran_as_meant image input fuel (Ok ran) old new ended out sent cut = λ program compiled. runs_as_meant program image input fuel ran.end ran.retired old new compiled ended out sent cut
+ran_as_meant image input fuel (Ok ran) old new ended out sent cut = λ program compiled.
+    runs_as_meant program image input fuel ran.end ran.retired old new compiled sent (runs_in_steps image input fuel ran.end ran.retired old new ended out sent cut)

@@ -1,1 +1,2 @@
 pub mod RunMeaning
+pub mod RunSteps

@@ -6,6 +6,7 @@ ghost use Rattle.c_grammar.specs.declared.Program.{Program};
 ghost use Rattle.flat_machine.specs.ImageRuns.{released_in};
 ghost use Rattle.compiler.specs.CompilerTheorem.{IsCompiled};
 ghost use Rattle.compiled_run.specs.RunMeaning.{RunsAsMeant};
+ghost use Rattle.compiled_run.specs.RunSteps.{RunsInSteps};
 
 use aegis_edge::Sink;
 use aegis_num::OutOfMemory;
@@ -26,7 +27,11 @@ pub fn run_compiled<K: Sink>(
 
     // Of each source that the image is compiled from, the run does what it means.
     ensures meant { IfOk result (λ ran. (program : Program) → IsCompiled program image.now
-        → RunsAsMeant program image.now input.now fuel ran.end ran.retired (K.written out.old) (K.written out.new)) }
+        → RunsAsMeant program input.now fuel ran.end (K.written out.old) (K.written out.new)) }
+
+    // It is told how many instructions were done, and the ideal machine does as many.
+    ensures steps { IfOk result (λ ran.
+        RunsInSteps image.now input.now fuel ran.end ran.retired (K.written out.old) (K.written out.new)) }
 
     // A byte is not taken only where the count of faults rose.
     ensures fault { IfOk result (λ ran. ran.end ≡ ImageEnd.WriteFault

@@ -64,7 +64,8 @@ pub fn run_image<K: Sink>(
     ensures untouched { OnErr result (K.faults out.new ≡ K.faults out.old) }
     ensures unspent { OnErr result (K.limit out.new ≡ K.limit out.old) }
 {
-    let mut memory = memory_of(alloc, image)?;
+    let bytes = bytes_of(alloc, image)?;
+    let mut memory = memory_of(alloc, image, bytes)?;
     let mut core = Core::new(start_address(image));
     let mut port = Port { input, next: 0 };
     for index in 0..fuel {
@@ -115,13 +116,12 @@ fn start_address(image: &Image) -> u32
     TREE_START + BLOCK_BYTES * blocks + 4 * image.entry
 }
 
-/// The memory before the first instruction.
-fn memory_of(alloc: Global, image: &Image) -> Result<FlatMemory, OutOfMemory>
+/// The memory before the first instruction, with these bytes in the static blocks.
+fn memory_of(alloc: Global, image: &Image, bytes: Vec<u8>) -> Result<FlatMemory, OutOfMemory>
+    requires { bytes.items ≡ static_bytes image.now }
     ensures memory { IfOk result (λ memory. memory ≡ flat_of image.now.layout (static_bytes image.now)) }
-    ensures bytes { IfOk result (λ memory.
-        AllByRecursion (λ byte. byte < 2 ^ 8) (static_bytes image.now)) }
+    ensures bytes { AllByRecursion (λ byte. byte < 2 ^ 8) (static_bytes image.now) }
 {
-    let bytes = known_bytes(bytes_of(alloc, image)?);
     FlatMemory::new(alloc, &image.layout, bytes.as_slice())
 }
 
@@ -135,12 +135,4 @@ fn bytes_of(alloc: Global, image: &Image) -> Result<Vec<u8>, OutOfMemory>
         bytes.extend_from_slice(&word.to_be_bytes())?;
     }
     Ok(bytes)
-}
-
-/// These bytes.
-fn known_bytes(bytes: Vec<u8>) -> Vec<u8>
-    ensures value { result ≡ bytes }
-    ensures range { AllByRecursion (λ byte. byte < 2 ^ 8) result.items }
-{
-    bytes
 }
