@@ -14,7 +14,8 @@ use Rattle.aegis_words.proofs.FileReadingLemmas.{text_once, text_missing, text_t
 use Rattle.aegis_run.specs.declared.ends.TopEnd.{TopEnd}
 use Rattle.aegis_run.specs.declared.ends.TopEnd.TheVariants.{Run, Mean, Done, Usage, TooLong, Token, Syntax, Typing, Plan, Image, NotYet, NoFile, ReadFault, WriteFault, OutOfMemory}
 use Rattle.aegis_run.specs.Answers.{IsRefusal, IsFailure}
-use Rattle.aegis_run.specs.Causes.{AreTold, Cause, IfRun, Serves, Stops, IsOwn, Completes, CauseAt, CauseAtFile, HasCause, IsStoppedByText, RefusesWhere}
+use Rattle.aegis_run.specs.Causes.{AreTold, Cause, Serves, Stops, IsOwn, Completes, CauseAt, CauseAtFile, HasCause, IsStoppedByText, RefusesWhere}
+use Rattle.aegis_run.specs.FilesRead.{IfRun}
 use Rattle.image_file.specs.declared.error.ImageError.{ImageError}
 use Rattle.image_file.specs.declared.error.ImageError.TheVariants as errors
 use Rattle.image_file.specs.ImageFaults.{first_fault}
@@ -22,9 +23,11 @@ use Rattle.region_plan.specs.declared.PlanError.{PlanError}
 use Rattle.compiler.specs.MemoryUse.{source_fault}
 use Rattle.aegis_run.specs.BuildCommand.{IsOwnOfBuild, ServesBuild, StopsBuild}
 use Rattle.aegis_run.specs.ListCommand.{IsOwnOfList, ServesList, StopsList}
+use Rattle.aegis_run.specs.MakeCommand.{IsOwnOfMake}
 use Rattle.aegis_run.specs.MeanCommand.{IsOwnOfMean, ServesMean, StopsMean}
 use Rattle.aegis_run.specs.RunCommand.{RunCommand, IsOwnOfRun, ServesRun, StopsRun}
-use Rattle.aegis_run.specs.Report.{Notes, line_of}
+use Rattle.aegis_run.specs.RunImage.{RunsImage}
+use Rattle.aegis_run.specs.Report.{Notes, is_reported, line_of, line_where}
 use Rattle.aegis_run.specs.SourceTexts.{BuildFault, HasPlanFault, IsBuildable, IsSource, SourceFault}
 use Rattle.aegis_run.proofs.SourceLemmas.{accepted_fault, one_fault, one_text}
 
@@ -62,7 +65,7 @@ fits_or_not text program error is fits fault =
     let both : None ≡ Some error = sym fits ∙ ap source_fault same ∙ fault.passes in cc
 
 -- a source that has an image has no such fault
-buildable_faultless : (text : List ℕ) (end : TopEnd) → IsBuildable text → BuildFault text end → ⊥
+pub buildable_faultless : (text : List ℕ) (end : TopEnd) → IsBuildable text → BuildFault text end → ⊥
 buildable_faultless text end serves stops = elim (build_fault text end stops) [
   | inl full ↦ fits_or_not text serves.program full.0 serves.is_source serves.fits full.2
   | inr fault ↦ serves_source text end serves.program serves.is_source fault
@@ -182,6 +185,7 @@ goes_on (asks.Run names) file text end serves stops = run_goes_on file text end 
 goes_on (asks.Mean names) file text end serves stops = mean_goes_on file text end serves stops
 goes_on (asks.Build names) file text end serves stops = build_goes_on file text end serves stops
 goes_on (asks.Listing names) file text end serves stops = list_goes_on file text end serves stops
+goes_on (asks.Make names) file text end serves stops = stops
 
 mean_stops_once : (file : File) (text : List ℕ) (a b : TopEnd) → StopsMean file text a → StopsMean file text b → a ≡ b
 mean_stops_once Source text a b one two = one_fault text a b one two
@@ -194,6 +198,7 @@ stops_once (asks.Run names) file text a b one two = run_stops_once file text a b
 stops_once (asks.Mean names) file text a b one two = mean_stops_once file text a b one two
 stops_once (asks.Build names) file text a b one two = build_stops_once file text a b one two
 stops_once (asks.Listing names) file text a b one two = list_stops_once file text a b one two
+stops_once (asks.Make names) file text a b one two = absurd one
 
 -- ---- a file has one answer
 
@@ -343,11 +348,29 @@ build_own ReadFault refusal own = own
 build_own WriteFault refusal own = refusal
 build_own OutOfMemory refusal own = own
 
+make_own : (end : TopEnd) → IsRefusal end → IsOwnOfMake end → ⊥
+make_own Done refusal own = refusal
+make_own (Run how) refusal own = refusal
+make_own (Mean how) refusal own = own
+make_own Usage refusal own = own
+make_own (TooLong file) refusal own = own
+make_own (NoFile file) refusal own = own
+make_own (Token error) refusal own = own
+make_own (Syntax error) refusal own = own
+make_own (Typing error) refusal own = own
+make_own (Plan error) refusal own = own
+make_own (Image error) refusal own = own
+make_own (NotYet file) refusal own = own
+make_own ReadFault refusal own = own
+make_own WriteFault refusal own = refusal
+make_own OutOfMemory refusal own = own
+
 own_refusal : (command : Command) (end : TopEnd) → IsRefusal end → IsOwn command end → ⊥
 own_refusal (asks.Run names) end refusal own = run_own end refusal own
 own_refusal (asks.Mean names) end refusal own = mean_own end refusal own
 own_refusal (asks.Build names) end refusal own = build_own end refusal own
 own_refusal (asks.Listing names) end refusal own = list_own end refusal own
+own_refusal (asks.Make names) end refusal own = make_own end refusal own
 
 -- an answer is a failure or is not
 sound_or_not : (end : TopEnd) → IsFailure end ⊎ (IsFailure end → ⊥)
@@ -415,6 +438,7 @@ no_usage files (asks.Run names) None before now (inl own) = own
 no_usage files (asks.Mean names) None before now (inl own) = own
 no_usage files (asks.Build names) None before now (inl own) = own
 no_usage files (asks.Listing names) None before now (inl own) = own
+no_usage files (asks.Make names) None before now (inl own) = own
 no_usage files command None before now (inr same) = cc
 
 pub usage_where : (files : Option Files) (row : Option Command) (before now : ℕ) (old new : Option (List Asking)) (end : TopEnd) → Cause files row before now old new end
@@ -436,18 +460,34 @@ complete_where None row before now old new end cause told = absurd told
 complete_where (Some files) None before now old new end cause told = tt
 complete_where (Some files) (Some command) before now old new end cause told = completes files command before now end cause.why
 
--- a run and its line count alike
-pub run_line : (files : Option Files) (row : Option Command) (end answer : TopEnd) (retired : ℕ) (noted : Bool) (old new before after : Option (List ℕ)) → answer ≡ end
-    → IfRun row (λ names. RunCommand files names end retired old new) → Notes (line_of end retired) noted before after
-    → IfRun row (λ names. (retired : ℕ) × RunCommand files names answer retired old new × Notes (line_of answer retired) noted before after)
-run_line files row end answer retired noted old new before after same run notes =
-    let P : TopEnd → Type 0 = λ answer. IfRun row (λ names. (retired : ℕ) × RunCommand files names answer retired old new × Notes (line_of answer retired) noted before after) in
-    subst P (sym same) (go row run)
+-- what a run has sent, by the answer that is told
+pub run_told : (files : Option Files) (row : Option Command) (end answer : TopEnd) (old new : Option (List ℕ)) → answer ≡ end
+    → IfRun row (λ names. RunCommand files names end old new) → IfRun row (λ names. RunCommand files names answer old new)
+run_told files row end answer old new same run = let P : TopEnd → Type 0 = λ answer. IfRun row (λ names. RunCommand files names answer old new) in subst P (sym same) run
+
+-- the run of an image and its line count alike
+pub run_line : (files : Option Files) (row : Option Command) (end answer : TopEnd) (retired : ℕ) (reported noted : Bool) (old new before after : Option (List ℕ)) → answer ≡ end
+    → IfRun row (λ names. RunsImage files names end retired old new) → reported ≡ is_reported row end → Notes (line_where reported end retired) noted before after
+    → IfRun row (λ names. (retired : ℕ) × RunsImage files names answer retired old new × Notes (line_of answer retired) noted before after)
+run_line files row end answer retired reported noted old new before after same run told notes =
+    let P : TopEnd → Type 0 = λ answer. IfRun row (λ names. (retired : ℕ) × RunsImage files names answer retired old new × Notes (line_of answer retired) noted before after) in
+    let Q : Bool → Type 0 = λ reported. Notes (line_where reported end retired) noted before after in
+    subst P (sym same) (go row run (subst Q told notes))
   where
-    go : (row : Option Command) → IfRun row (λ names. RunCommand files names end retired old new)
-        → IfRun row (λ names. (retired : ℕ) × RunCommand files names end retired old new × Notes (line_of end retired) noted before after)
-    go None run = tt
-    go (Some (asks.Run names)) run = (retired, run, notes)
-    go (Some (asks.Mean names)) run = tt
-    go (Some (asks.Build names)) run = tt
-    go (Some (asks.Listing names)) run = tt
+    go : (row : Option Command) → IfRun row (λ names. RunsImage files names end retired old new) → Notes (line_where (is_reported row end) end retired) noted before after
+        → IfRun row (λ names. (retired : ℕ) × RunsImage files names end retired old new × Notes (line_of end retired) noted before after)
+    go None run notes = tt
+    go (Some (asks.Run names)) run notes = (retired, run, notes)
+    go (Some (asks.Mean names)) run notes = tt
+    go (Some (asks.Build names)) run notes = tt
+    go (Some (asks.Listing names)) run notes = tt
+    go (Some (asks.Make names)) run notes = tt
+
+-- and notes take the line of the answer where it is told
+pub told_line : (row : Option Command) (end answer : TopEnd) (retired : ℕ) (reported noted : Bool) (before after : Option (List ℕ)) → answer ≡ end
+    → reported ≡ is_reported row end → Notes (line_where reported end retired) noted before after
+    → (retired : ℕ) × Notes (line_where (is_reported row answer) answer retired) noted before after
+told_line row end answer retired reported noted before after same told notes =
+    let P : TopEnd → Type 0 = λ answer. (retired : ℕ) × Notes (line_where (is_reported row answer) answer retired) noted before after in
+    let Q : Bool → Type 0 = λ reported. Notes (line_where reported end retired) noted before after in
+    subst P (sym same) (retired, subst Q told notes)

@@ -14,7 +14,8 @@ use Rattle.c_evaluator.specs.declared.mean_end.MeanEnd.TheVariants as mean
 use Rattle.aegis_run.specs.declared.ends.End.TheVariants.{Ended, WriteFault as ByteLost}
 use Rattle.aegis_run.specs.declared.ends.TopEnd.TheVariants.{Done, Run, Mean, Usage, Image, TooLong, NotYet, NoFile, ReadFault, WriteFault, OutOfMemory}
 use Rattle.aegis_run.specs.Answers.{IsFailure, IsFileFault, IsRefusal, IsWriteFault, RisesWhere}
-use Rattle.aegis_run.specs.Causes.{AreTold, Cause, CauseAt, CauseAtFile, IfList, IfMean, IfRun, IsAnswered, IsOwn, Serves}
+use Rattle.aegis_run.specs.Causes.{AreTold, Cause, CauseAt, CauseAtFile, IsAnswered, IsOwn, Serves}
+use Rattle.aegis_run.specs.FilesRead.{IfList, IfMean, IfRun}
 use Rattle.image_file.specs.declared.error.ImageError.TheVariants as errors
 use Rattle.aegis_run.specs.ListCommand.{ListCommand, ServesList, StopsList}
 use Rattle.aegis_run.specs.MeanCommand.{MeanCommand, ServesMean, StopsMean}
@@ -203,10 +204,10 @@ stays_with rises = absurd (omega (arith, rises.rose tt))
 
 -- ---- what goes out
 
-run_is_silent : RunCommand None run_names (NotYet Script) 0 (Some (1 ∷ [])) (Some (1 ∷ [])) × MeanCommand None mean_names (Run Ended) (Some []) (Some [])
+run_is_silent : RunCommand None run_names (NotYet Script) (Some (1 ∷ [])) (Some (1 ∷ [])) × MeanCommand None mean_names (Run Ended) (Some []) (Some [])
 run_is_silent = (refl, refl)
 
-run_sends : RunCommand None run_names OutOfMemory 0 (Some []) (Some (1 ∷ [])) → ⊥
+run_sends : RunCommand None run_names OutOfMemory (Some []) (Some (1 ∷ [])) → ⊥
 run_sends sends = let same : Some (1 ∷ []) ≡ Some [] = sends in cc
 
 no_run : IfRun (Some (asks.Mean mean_names)) (λ names. ⊥) × IfMean (Some (asks.Run run_names)) (λ names. ⊥) × IfRun None (λ names. ⊥) × IfMean None (λ names. ⊥)

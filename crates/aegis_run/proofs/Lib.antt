@@ -4,7 +4,10 @@ mod CommandLemmas
 mod ContractExamples
 mod Examples
 mod ListLemmas
+mod MakeExamples
+mod MakeLemmas
 mod ReadingLemmas
+mod RowLemmas
 mod RunLemmas
 mod SourceLemmas
 mod SyntaxLemmas

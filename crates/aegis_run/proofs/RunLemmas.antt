@@ -12,13 +12,15 @@ use Rattle.image_file.specs.declared.Image.{Image as ImageType}
 use Rattle.flat_machine.specs.declared.ran.ImageEnd.{ImageEnd}
 use Rattle.flat_machine.specs.declared.ran.ImageEnd.TheVariants as ends
 use Rattle.compiled_run.specs.RunMeaning.{RunsAsMeant}
+use Rattle.compiled_run.specs.RunSteps.{RunsInSteps}
 use Rattle.aegis_run.specs.declared.ends.End.{End}
 use Rattle.aegis_run.specs.declared.ends.TopEnd.{TopEnd}
 use Rattle.aegis_run.specs.declared.ends.TopEnd.TheVariants.{Run, Mean, Done, Usage, TooLong, Token, Syntax, Typing, Plan, Image, NotYet, NoFile, ReadFault, WriteFault, OutOfMemory}
 use Rattle.aegis_run.specs.Answers.{IsWriteFault, RisesWhere}
 use Rattle.aegis_run.specs.Causes.{CauseAt, CauseAtFile, IsAnswered}
 use Rattle.aegis_run.specs.FilesRead.{HasRead, IsBuiltFrom, RunReady, SendsRun, Writes, end_of_run}
-use Rattle.aegis_run.specs.RunCommand.{RunCommand, RunSends}
+use Rattle.aegis_run.specs.RunCommand.{RunCommand}
+use Rattle.aegis_run.specs.RunImage.{RunsImage}
 use Rattle.aegis_run.proofs.CommandLemmas.{buildable, built_here, source_step}
 use Rattle.aegis_run.proofs.ReadingLemmas.{answered, begun, read_on, still_read}
 
@@ -78,24 +80,37 @@ run_answered files names before now old new image input program retired written 
     go WriteFault sends = absurd sends
     go OutOfMemory sends = inr refl
 
+-- what it has sent, and that this image was run
 pub run_sent : (files : Option Files) (names : RunNames) (before now : ℕ) (old new : Option (List Asking)) (image : ImageType) (input : List ℕ) (retired : ℕ)
     (written written' : Option (List ℕ)) (end : TopEnd) (ready : RunReady files names before now old new image input)
-    → SendsRun ready.built.program image input names.fuel end retired written written' → RunCommand files names end retired written written'
+    → SendsRun ready.built.program image input names.fuel end retired written written' → RunCommand files names end written written' × RunsImage files names end retired written written'
 run_sent files names before now old new image input retired written written' end ready sends = go end sends
   where
-    go : (end : TopEnd) → SendsRun ready.built.program image input names.fuel end retired written written' → RunCommand files names end retired written written'
+    go : (end : TopEnd) → SendsRun ready.built.program image input names.fuel end retired written written'
+        → RunCommand files names end written written' × RunsImage files names end retired written written'
     go Done sends = absurd sends
-    go (Run how) sends = record {
-      source = ready.source;
-      input = input;
-      has_source = ready.read.passed.0.0.1.0.whole;
-      has_input = ready.read.passed.1.0.whole;
-      program = ready.built.program;
-      is_program = ready.built.is_source.is_text;
-      image = image;
-      compiled = ready.built.compiled;
-      sends = sends;
-    }
+    go (Run how) sends = (
+      record {
+        source = ready.source;
+        input = input;
+        has_source = ready.read.passed.0.0.1.0.whole;
+        has_input = ready.read.passed.1.0.whole;
+        program = ready.built.program;
+        is_program = ready.built.is_source.is_text;
+        sends = sends.0;
+      },
+      record {
+        source = ready.source;
+        input = input;
+        has_source = ready.read.passed.0.0.1.0.whole;
+        has_input = ready.read.passed.1.0.whole;
+        program = ready.built.program;
+        is_program = ready.built.is_source.is_text;
+        image = image;
+        compiled = ready.built.compiled;
+        takes = sends.1;
+      },
+    )
     go (Mean how) sends = absurd sends
     go Usage sends = absurd sends
     go (TooLong file) sends = absurd sends
@@ -108,35 +123,53 @@ run_sent files names before now old new image input retired written written' end
     go (NotYet file) sends = absurd sends
     go ReadFault sends = absurd sends
     go WriteFault sends = absurd sends
-    go OutOfMemory sends = sends
+    go OutOfMemory sends = (sends, tt)
 
 -- where no byte goes out, none went out
-pub run_silent : (files : Option Files) (names : RunNames) (end : TopEnd) (retired : ℕ) (written : Option (List ℕ)) → (Writes end → ⊥) → RunCommand files names end retired written written
-run_silent files names Done retired written silent = refl
-run_silent files names (Run how) retired written silent = absurd (silent tt)
-run_silent files names (Mean how) retired written silent = refl
-run_silent files names Usage retired written silent = refl
-run_silent files names (TooLong file) retired written silent = refl
-run_silent files names (NoFile file) retired written silent = refl
-run_silent files names (Token error) retired written silent = refl
-run_silent files names (Syntax error) retired written silent = refl
-run_silent files names (Typing error) retired written silent = refl
-run_silent files names (Plan error) retired written silent = refl
-run_silent files names (Image error) retired written silent = refl
-run_silent files names (NotYet file) retired written silent = refl
-run_silent files names ReadFault retired written silent = refl
-run_silent files names WriteFault retired written silent = refl
-run_silent files names OutOfMemory retired written silent = refl
+pub run_silent : (files : Option Files) (names : RunNames) (end : TopEnd) (written : Option (List ℕ)) → (Writes end → ⊥) → RunCommand files names end written written
+run_silent files names Done written silent = refl
+run_silent files names (Run how) written silent = absurd (silent tt)
+run_silent files names (Mean how) written silent = refl
+run_silent files names Usage written silent = refl
+run_silent files names (TooLong file) written silent = refl
+run_silent files names (NoFile file) written silent = refl
+run_silent files names (Token error) written silent = refl
+run_silent files names (Syntax error) written silent = refl
+run_silent files names (Typing error) written silent = refl
+run_silent files names (Plan error) written silent = refl
+run_silent files names (Image error) written silent = refl
+run_silent files names (NotYet file) written silent = refl
+run_silent files names ReadFault written silent = refl
+run_silent files names WriteFault written silent = refl
+run_silent files names OutOfMemory written silent = refl
+
+-- and no image was run
+pub run_not_started : (files : Option Files) (names : RunNames) (end : TopEnd) (retired : ℕ) (old new : Option (List ℕ)) → (Writes end → ⊥) → RunsImage files names end retired old new
+run_not_started files names Done retired old new silent = tt
+run_not_started files names (Run how) retired old new silent = absurd (silent tt)
+run_not_started files names (Mean how) retired old new silent = tt
+run_not_started files names Usage retired old new silent = tt
+run_not_started files names (TooLong file) retired old new silent = tt
+run_not_started files names (NoFile file) retired old new silent = tt
+run_not_started files names (Token error) retired old new silent = tt
+run_not_started files names (Syntax error) retired old new silent = tt
+run_not_started files names (Typing error) retired old new silent = tt
+run_not_started files names (Plan error) retired old new silent = tt
+run_not_started files names (Image error) retired old new silent = tt
+run_not_started files names (NotYet file) retired old new silent = tt
+run_not_started files names ReadFault retired old new silent = tt
+run_not_started files names WriteFault retired old new silent = tt
+run_not_started files names OutOfMemory retired old new silent = tt
 
 -- ---- how the run of an image ends
 
 sends_so : (program : Program) (image : ImageType) (input : List ℕ) (fuel : ℕ) (end : ImageEnd) (retired : ℕ) (old new : Option (List ℕ))
-    → RunsAsMeant program image input fuel end retired old new → RunSends program image input fuel (end_of_run end retired) retired old new
-sends_so program image input fuel ends.Ended retired old new meant = meant
-sends_so program image input fuel (ends.Index at) retired old new meant = meant
-sends_so program image input fuel (ends.Divide at) retired old new meant = meant
-sends_so program image input fuel ends.FuelOut retired old new meant = (refl, meant)
-sends_so program image input fuel ends.WriteFault retired old new meant = meant
+    → RunsAsMeant program input fuel end old new → RunsInSteps image input fuel end retired old new → SendsRun program image input fuel (Run (end_of_run end retired)) retired old new
+sends_so program image input fuel ends.Ended retired old new meant steps = (meant, steps)
+sends_so program image input fuel (ends.Index at) retired old new meant steps = (meant, steps)
+sends_so program image input fuel (ends.Divide at) retired old new meant steps = (meant, steps)
+sends_so program image input fuel ends.FuelOut retired old new meant steps = ((steps.all, meant), (refl, steps))
+sends_so program image input fuel ends.WriteFault retired old new meant steps = (meant, steps)
 
 run_rises : (end : ImageEnd) (retired before now : ℕ) → (end ≡ ends.WriteFault → Rose before now) → (end ≢ ends.WriteFault → now ≡ before)
     → RisesWhere (IsWriteFault (Run (end_of_run end retired))) before now
@@ -149,11 +182,12 @@ run_rises ends.WriteFault retired before now rose steady = record { rose = λ fa
 -- ---- what the run of an image has sent
 
 pub ran_sends : (program : Program) (image : ImageType) (input slice : List ℕ) (fuel : ℕ) (end : ImageEnd) (told : End) (retired : ℕ) (old new : Option (List ℕ))
-    → slice ≡ input → told ≡ end_of_run end retired → RunsAsMeant program image slice fuel end retired old new → SendsRun program image input fuel (Run told) retired old new
-ran_sends program image input slice fuel end told retired old new same says meant =
+    → slice ≡ input → told ≡ end_of_run end retired → RunsAsMeant program slice fuel end old new → RunsInSteps image slice fuel end retired old new
+    → SendsRun program image input fuel (Run told) retired old new
+ran_sends program image input slice fuel end told retired old new same says meant steps =
     let P : List ℕ → Type 0 = λ input. SendsRun program image input fuel (Run told) retired old new in
-    let Q : End → Type 0 = λ told. RunSends program image slice fuel told retired old new in
-    subst P same (subst Q (sym says) (sends_so program image slice fuel end retired old new meant))
+    let Q : End → Type 0 = λ told. SendsRun program image slice fuel (Run told) retired old new in
+    subst P same (subst Q (sym says) (sends_so program image slice fuel end retired old new meant steps))
 
 pub ran_rises : (end : ImageEnd) (told : End) (retired before now : ℕ) → told ≡ end_of_run end retired → (end ≡ ends.WriteFault → Rose before now)
     → (end ≢ ends.WriteFault → now ≡ before) → RisesWhere (IsWriteFault (Run told)) before now

@@ -22,6 +22,7 @@ use Rattle.aegis_run.specs.declared.ends.End.{End}
 use Rattle.aegis_run.specs.declared.ends.End.TheVariants as run
 use Rattle.aegis_run.specs.MeanCommand.{MeanCommand}
 use Rattle.aegis_run.specs.RunCommand.{RunCommand, RunStarted}
+use Rattle.aegis_run.specs.RunImage.{RunsImage}
 use Rattle.aegis_run.specs.SourceMeaning.{SourceMeans}
 use Rattle.aegis_run.proofs.SourceLemmas.{one_text}
 
@@ -109,9 +110,9 @@ module _ (hi_says : (turns : ℕ) → ((hi_meaning turns).end ≡ outcome.Ended)
   -- ---- a run
 
   -- what the source of a run that was started means
-  started : (files : Files) (end : End) (retired : ℕ) (old new : Option (List ℕ)) (told : RunStarted (Some files) run_names end retired old new)
+  started : (files : Files) (end : End) (old new : Option (List ℕ)) (told : RunStarted (Some files) run_names end old new)
       → SourceMeans (Some files) (1 ∷ []) (3 ∷ []) (turns_with 0) (meaning_with told.program told.input 0)
-  started files end retired old new told = record {
+  started files end old new told = record {
     source = told.source;
     input = told.input;
     has_source = told.has_source;
@@ -122,27 +123,31 @@ module _ (hi_says : (turns : ℕ) → ((hi_meaning turns).end ≡ outcome.Ended)
   }
 
   -- not all bytes went out
-  short_run : RunCommand (Some hi_files) run_names (Run Ended) 5 (Some []) (Some first_byte) → ⊥
+  short_run : RunCommand (Some hi_files) run_names (Run Ended) (Some []) (Some first_byte) → ⊥
   short_run told =
-      let means = started hi_files Ended 5 (Some []) (Some first_byte) told in
+      let means = started hi_files Ended (Some []) (Some first_byte) told in
       let sent : Some first_byte ≡ Some hi_bytes = told.sends.bytes ∙ ap Some (one_output (turns_with 0) (meaning_with told.program told.input 0) means) in cc
 
   -- the meaning ends otherwise
-  other_run_end : RunCommand (Some hi_files) run_names (Run (run.Index 3)) 5 (Some []) (Some hi_bytes) → ⊥
+  other_run_end : RunCommand (Some hi_files) run_names (Run (run.Index 3)) (Some []) (Some hi_bytes) → ⊥
   other_run_end told =
-      let means = started hi_files (run.Index 3) 5 (Some []) (Some hi_bytes) told in
+      let means = started hi_files (run.Index 3) (Some []) (Some hi_bytes) told in
       let same : outcome.Index 3 ≡ outcome.Ended = sym told.sends.ended ∙ one_end (turns_with 0) (meaning_with told.program told.input 0) means in cc
 
+  -- the answer tells another number of instructions than the fuel
+  not_used_up : RunCommand (Some hi_files) run_names (Run (run.FuelOut 1)) (Some []) (Some []) → ⊥
+  not_used_up told = absurd (omega (arith, told.sends.0))
+
   -- more instructions than the fuel
-  past_fuel : RunCommand (Some hi_files) run_names (Run Ended) 5 (Some []) (Some hi_bytes) → ⊥
-  past_fuel told = absurd (omega (arith, told.sends.within))
+  past_fuel : RunsImage (Some hi_files) run_names (Run Ended) 5 (Some []) (Some hi_bytes) → ⊥
+  past_fuel told = absurd (omega (arith, told.takes.1))
 
-  -- the answer tells another number of instructions than the line, or than the fuel
-  other_count : RunCommand (Some hi_files) run_names (Run (run.FuelOut 1)) 0 (Some []) (Some []) → ⊥
-  other_count told = absurd (omega (arith, told.sends.0))
+  -- the answer tells another number of instructions than the line, or fewer than the fuel were done
+  other_count : RunsImage (Some hi_files) run_names (Run (run.FuelOut 1)) 0 (Some []) (Some []) → ⊥
+  other_count told = absurd (omega (arith, told.takes.0))
 
-  not_used_up : RunCommand (Some hi_files) run_names (Run (run.FuelOut 1)) 1 (Some []) (Some []) → ⊥
-  not_used_up told = absurd (omega (arith, told.sends.1.all))
+  not_all : RunsImage (Some hi_files) run_names (Run (run.FuelOut 1)) 1 (Some []) (Some []) → ⊥
+  not_all told = absurd (omega (arith, told.takes.1.all))
 
   abbrev first_of : Option (List ℕ) → ℕ
   first_of None = 0
@@ -157,17 +162,17 @@ module _ (hi_says : (turns : ℕ) → ((hi_meaning turns).end ≡ outcome.Ended)
       go zero sent = let first : ◌≡◌ {A = ℕ} 105 0 = ap first_of sent in absurd (omega (arith, first))
       go (suc count) sent = let first : ◌≡◌ {A = ℕ} 105 72 = ap first_of sent in absurd (omega (arith, first))
 
-  run_not_front : RunCommand (Some hi_files) run_names (Run ByteLost) 0 (Some []) (Some second_byte) → ⊥
+  run_not_front : RunCommand (Some hi_files) run_names (Run ByteLost) (Some []) (Some second_byte) → ⊥
   run_not_front told =
-      let means = started hi_files ByteLost 0 (Some []) (Some second_byte) told in
-      no_front told.sends.bytes.0 (meaning_with told.program told.input 0).traffic.bytes (one_output (turns_with 0) (meaning_with told.program told.input 0) means) told.sends.bytes.1
+      let means = started hi_files ByteLost (Some []) (Some second_byte) told in
+      no_front told.sends.0 (meaning_with told.program told.input 0).traffic.bytes (one_output (turns_with 0) (meaning_with told.program told.input 0) means) told.sends.1
 
   -- no run starts without a source
-  no_start : RunCommand (Some nothing) run_names (Run ByteLost) 0 (Some []) (Some []) → ⊥
-  no_start told = no_source (turns_with 0) (meaning_with told.program told.input 0) (started nothing ByteLost 0 (Some []) (Some []) told)
+  no_start : RunCommand (Some nothing) run_names (Run ByteLost) (Some []) (Some []) → ⊥
+  no_start told = no_source (turns_with 0) (meaning_with told.program told.input 0) (started nothing ByteLost (Some []) (Some []) told)
 
-  no_end : RunCommand (Some nothing) run_names (Run Ended) 1 (Some []) (Some []) → ⊥
-  no_end told = no_source (turns_with 0) (meaning_with told.program told.input 0) (started nothing Ended 1 (Some []) (Some []) told)
+  no_end : RunCommand (Some nothing) run_names (Run Ended) (Some []) (Some []) → ⊥
+  no_end told = no_source (turns_with 0) (meaning_with told.program told.input 0) (started nothing Ended (Some []) (Some []) told)
 
   -- ---- a `mean`
 

@@ -7,15 +7,12 @@ use Rattle.aegis_words.specs.CommandTable.{Command, step_after}
 use Rattle.aegis_words.specs.CommandTable as asks
 use Rattle.aegis_words.specs.FileReading.{HasText, ArePassed, steps_asked}
 use Rattle.aegis_words.specs.FileSteps.{FileStep, askings_for, limit_for}
-use Rattle.aegis_words.specs.BuildWordRow.{BuildNames}
-use Rattle.aegis_words.specs.ListWordRow.{ListNames}
-use Rattle.aegis_words.specs.MeanWordRow.{MeanNames}
-use Rattle.aegis_words.specs.RunWordRow.{RunNames}
 use Rattle.aegis_run.specs.declared.ends.TopEnd.{TopEnd}
 use Rattle.aegis_run.specs.declared.ends.TopEnd.TheVariants.{Run, Mean, Done, Usage, TooLong, Token, Syntax, Typing, Plan, Image, NotYet, NoFile, ReadFault, WriteFault, OutOfMemory}
 use Rattle.aegis_run.specs.Answers.{IsRefusal, IsFailure}
 use Rattle.aegis_run.specs.BuildCommand.{ServesBuild, StopsBuild, IsOwnOfBuild}
 use Rattle.aegis_run.specs.ListCommand.{ServesList, StopsList, IsOwnOfList}
+use Rattle.aegis_run.specs.MakeCommand.{ServesMake, StopsMake, IsOwnOfMake}
 use Rattle.aegis_run.specs.MeanCommand.{ServesMean, StopsMean, IsOwnOfMean}
 use Rattle.aegis_run.specs.RunCommand.{ServesRun, StopsRun, IsOwnOfRun}
 
@@ -27,6 +24,7 @@ Serves (asks.Run names) = ServesRun
 Serves (asks.Mean names) = ServesMean
 Serves (asks.Build names) = ServesBuild
 Serves (asks.Listing names) = ServesList
+Serves (asks.Make names) = ServesMake
 
 -- why the text of a file stops a command, and which answer says so
 abbrev pub Stops : Command → File → List ℕ → TopEnd → Type 0
@@ -34,6 +32,7 @@ Stops (asks.Run names) = StopsRun
 Stops (asks.Mean names) = StopsMean
 Stops (asks.Build names) = StopsBuild
 Stops (asks.Listing names) = StopsList
+Stops (asks.Make names) = StopsMake
 
 -- the answers that a command gives once its files were read
 abbrev pub IsOwn : Command → TopEnd → Type 0
@@ -41,26 +40,7 @@ IsOwn (asks.Run names) = IsOwnOfRun
 IsOwn (asks.Mean names) = IsOwnOfMean
 IsOwn (asks.Build names) = IsOwnOfBuild
 IsOwn (asks.Listing names) = IsOwnOfList
-
--- a fact of the names of a run, where the words are one
-abbrev pub IfRun : Option Command → (RunNames → Type 0) → Type 0
-IfRun (Some (asks.Run names)) P = P names
-IfRun row P = Unit {0}
-
--- a fact of the names of a `mean`, where the words are one
-abbrev pub IfMean : Option Command → (MeanNames → Type 0) → Type 0
-IfMean (Some (asks.Mean names)) P = P names
-IfMean row P = Unit {0}
-
--- a fact of the name of a `build`, where the words are one
-abbrev pub IfBuild : Option Command → (BuildNames → Type 0) → Type 0
-IfBuild (Some (asks.Build names)) P = P names
-IfBuild row P = Unit {0}
-
--- a fact of the name of a `list`, where the words are one
-abbrev pub IfList : Option Command → (ListNames → Type 0) → Type 0
-IfList (Some (asks.Listing names)) P = P names
-IfList row P = Unit {0}
+IsOwn (asks.Make names) = IsOwnOfMake
 
 -- ---- causes
 

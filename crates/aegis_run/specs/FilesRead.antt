@@ -9,6 +9,7 @@ use Rattle.aegis_words.specs.FileReading.{ArePassed, steps_read}
 use Rattle.aegis_words.specs.FileSteps.{FileStep, askings_for, limit_for}
 use Rattle.aegis_words.specs.BuildWordRow.{BuildNames}
 use Rattle.aegis_words.specs.ListWordRow.{ListNames}
+use Rattle.aegis_words.specs.MakeWordRow.{MakeNames}
 use Rattle.aegis_words.specs.MeanWordRow.{MeanNames}
 use Rattle.aegis_words.specs.RunWordRow.{RunNames}
 use Rattle.c_evaluator.specs.MachineStates.{end_of}
@@ -39,8 +40,35 @@ use Rattle.flat_machine.specs.declared.ran.ImageEnd.{ImageEnd}
 use Rattle.flat_machine.specs.declared.ran.ImageEnd.TheVariants as ends
 use Rattle.aegis_run.specs.declared.ends.End.{End}
 use Rattle.aegis_run.specs.declared.ends.End.TheVariants as run
+use Rattle.aegis_run.specs.MakeCommand.{IsMadeEnd, IsMadeRun, end_word, summary_line}
 use Rattle.aegis_run.specs.RunCommand.{RunSends}
+use Rattle.aegis_run.specs.RunImage.{RunTakes}
 use Rattle.aegis_run.specs.SourceTexts.{IsSource, SourceFault, BuildFault}
+
+-- a fact of the names of a run, where the words are one
+abbrev pub IfRun : Option Command → (RunNames → Type 0) → Type 0
+IfRun (Some (asks.Run names)) P = P names
+IfRun row P = Unit {0}
+
+-- a fact of the names of a `mean`, where the words are one
+abbrev pub IfMean : Option Command → (MeanNames → Type 0) → Type 0
+IfMean (Some (asks.Mean names)) P = P names
+IfMean row P = Unit {0}
+
+-- a fact of the name of a `build`, where the words are one
+abbrev pub IfBuild : Option Command → (BuildNames → Type 0) → Type 0
+IfBuild (Some (asks.Build names)) P = P names
+IfBuild row P = Unit {0}
+
+-- a fact of the name of a `list`, where the words are one
+abbrev pub IfList : Option Command → (ListNames → Type 0) → Type 0
+IfList (Some (asks.Listing names)) P = P names
+IfList row P = Unit {0}
+
+-- a fact of the number of a `make`, where the words are one
+abbrev pub IfMake : Option Command → (MakeNames → Type 0) → Type 0
+IfMake (Some (asks.Make names)) P = P names
+IfMake row P = Unit {0}
 
 -- a command has read these texts, asked for their files alone, and met no fault
 pub record HasRead (files : Option Files) (command : Command) (before now : ℕ) (old new : Option (List Asking)) (texts : List (List ℕ)) : Type 0 where
@@ -161,7 +189,7 @@ end_of_run ends.WriteFault retired = run.WriteFault
 
 -- what an answer after a compiled source has sent, and after how many instructions
 abbrev pub SendsRun : Program → Image → List ℕ → ℕ → TopEnd → ℕ → Option (List ℕ) → Option (List ℕ) → Type 0
-SendsRun program image input fuel (Run end) retired old new = RunSends program image input fuel end retired old new
+SendsRun program image input fuel (Run end) retired old new = RunSends program input fuel end old new × RunTakes image input fuel end retired old new
 SendsRun program image input fuel OutOfMemory retired old new = new ≡ old
 SendsRun program image input fuel end retired old new = ⊥
 
@@ -185,3 +213,15 @@ SendsMeaning (Mean end) old new meaning = (end_of end ≡ meaning.end) × Append
 SendsMeaning WriteFault old new meaning = AppendsFront old new meaning.traffic.bytes
 SendsMeaning OutOfMemory old new meaning = new ≡ old
 SendsMeaning end old new meaning = ⊥
+
+-- a made run that ended so and released these bytes
+pub record IsMadeFrom (number : ℕ) (end : End) (bytes : List ℕ) : Type 0 where
+  pub ran : IsMadeRun number end bytes
+  pub ends : IsMadeEnd end
+
+-- what an answer after a made run put into a sink: its line, or a front of it
+abbrev pub SendsSummary : ℕ → End → List ℕ → TopEnd → Option (List ℕ) → Option (List ℕ) → Type 0
+SendsSummary number end bytes (Run told) old new = (told ≡ end) × Appends old new (summary_line number bytes (end_word end))
+SendsSummary number end bytes WriteFault old new = AppendsFront old new (summary_line number bytes (end_word end))
+SendsSummary number end bytes OutOfMemory old new = new ≡ old
+SendsSummary number end bytes told old new = ⊥

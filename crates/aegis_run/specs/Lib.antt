@@ -3,8 +3,10 @@ pub mod BuildCommand
 pub mod Causes
 pub mod FilesRead
 pub mod ListCommand
+pub mod MakeCommand
 pub mod MeanCommand
 pub mod Report
 pub mod RunCommand
+pub mod RunImage
 pub mod SourceMeaning
 pub mod SourceTexts

@@ -1,6 +1,8 @@
 -- Promise: the exit status of an answer, and its line on the notes.
 use Rattle.std.specs.Prelude.{◌≡◌, ℕ, Bool, true, false, List, ◌++◌, Option, None, Some, codes, decimal}
 use Rattle.aegis_edge.specs.Sink.{Appends, AppendsFront}
+use Rattle.aegis_words.specs.CommandTable.{Command}
+use Rattle.aegis_words.specs.CommandTable as asks
 use Rattle.aegis_words.specs.declared.file.File.{File}
 use Rattle.aegis_words.specs.declared.file.File.TheVariants as file
 use Rattle.aegis_run.specs.declared.ends.End.{End}
@@ -125,7 +127,7 @@ abbrev pub line_of : TopEnd → ℕ → Option (List ℕ)
 line_of Done retired = None
 line_of (Run end) retired = Some (run_line end retired)
 line_of (Mean end) retired = Some (meaning_line end)
-line_of Usage retired = Some (codes "usage: run SOURCE SCRIPT INPUT FUEL KEY NONCE, mean SOURCE INPUT TURNS, build SOURCE, list IMAGE\n")
+line_of Usage retired = Some (codes "usage: run SOURCE SCRIPT INPUT FUEL KEY NONCE, mean SOURCE INPUT TURNS, build SOURCE, list IMAGE, make N\n")
 line_of (TooLong file) retired = Some (codes "too long: " ++ file_word file ++ codes "\n")
 line_of (Token error) retired = Some (token_line error)
 line_of (Syntax error) retired = Some (syntax_line error)
@@ -137,6 +139,16 @@ line_of (NoFile file) retired = Some (codes "no file: " ++ file_word file ++ cod
 line_of ReadFault retired = Some (codes "read fault\n")
 line_of WriteFault retired = Some (codes "write fault\n")
 line_of OutOfMemory retired = Some (codes "out of memory\n")
+
+-- a run is told on the notes, but for that of a `make`
+abbrev pub is_reported : Option Command → TopEnd → Bool
+is_reported (Some (asks.Make names)) (Run end) = false
+is_reported row end = true
+
+-- the line of an answer where it is told
+abbrev pub line_where : Bool → TopEnd → ℕ → Option (List ℕ)
+line_where true end retired = line_of end retired
+line_where false end retired = None
 
 -- what notes took of a line: all of it where it was noted, else a front; where there is no line, nothing, and all is noted
 abbrev pub Notes : Option (List ℕ) → Bool → Option (List ℕ) → Option (List ℕ) → Type 0

@@ -6,8 +6,6 @@ use Rattle.c_grammar.specs.TokenPrograms.{HasProgram}
 use Rattle.aegis_words.specs.declared.file.File.{File}
 use Rattle.aegis_words.specs.declared.file.File.TheVariants as file
 use Rattle.aegis_words.specs.RunWordRow.{RunNames}
-use Rattle.image_file.specs.declared.Image.{Image}
-use Rattle.compiler.specs.CompilerTheorem.{IsCompiled}
 use Rattle.flat_machine.specs.declared.ran.ImageEnd.TheVariants as ends
 use Rattle.compiled_run.specs.RunMeaning.{RunsAsMeant}
 use Rattle.aegis_run.specs.declared.ends.End.{End}
@@ -29,31 +27,28 @@ StopsRun file.Source text end = BuildFault text end
 StopsRun file.Script text (NotYet file.Script) = text ≢ []
 StopsRun kind text end = ⊥
 
--- what a run of the image of a source on an input, with this fuel, has sent before it ends so, after so many instructions
-abbrev pub RunSends : Program → Image → List ℕ → ℕ → End → ℕ → Option (List ℕ) → Option (List ℕ) → Type 0
-RunSends program image input fuel run.Ended retired old new = RunsAsMeant program image input fuel ends.Ended retired old new
-RunSends program image input fuel (run.Index at) retired old new = RunsAsMeant program image input fuel (ends.Index at) retired old new
-RunSends program image input fuel (run.Divide at) retired old new = RunsAsMeant program image input fuel (ends.Divide at) retired old new
-RunSends program image input fuel (run.FuelOut count) retired old new =
-    (count ≡ retired) × RunsAsMeant program image input fuel ends.FuelOut retired old new
-RunSends program image input fuel run.WriteFault retired old new = RunsAsMeant program image input fuel ends.WriteFault retired old new
+-- what a run of a source on an input, with this fuel, has sent before it ends so. It counts its instructions where it used its fuel up.
+abbrev pub RunSends : Program → List ℕ → ℕ → End → Option (List ℕ) → Option (List ℕ) → Type 0
+RunSends program input fuel run.Ended old new = RunsAsMeant program input fuel ends.Ended old new
+RunSends program input fuel (run.Index at) old new = RunsAsMeant program input fuel (ends.Index at) old new
+RunSends program input fuel (run.Divide at) old new = RunsAsMeant program input fuel (ends.Divide at) old new
+RunSends program input fuel (run.FuelOut count) old new = (count ≡ fuel) × RunsAsMeant program input fuel ends.FuelOut old new
+RunSends program input fuel run.WriteFault old new = RunsAsMeant program input fuel ends.WriteFault old new
 
--- A run was started: its files are a source and an input, and the image is compiled from the source. It has sent what the source means.
-pub record RunStarted (files : Option Files) (names : RunNames) (end : End) (retired : ℕ) (old new : Option (List ℕ)) : Type 0 where
+-- a run was started: its files are a source and an input, and it has sent what the source means
+pub record RunStarted (files : Option Files) (names : RunNames) (end : End) (old new : Option (List ℕ)) : Type 0 where
   pub source : List ℕ
   pub input : List ℕ
   pub has_source : HoldsWhole files names.source source
   pub has_input : HoldsWhole files names.input input
   pub program : Program
   pub is_program : HasProgram source program
-  pub image : Image
-  pub compiled : IsCompiled program image
-  pub sends : RunSends program image input names.fuel end retired old new
+  pub sends : RunSends program input names.fuel end old new
 
--- what goes out before an answer of a run, and after how many instructions the run ends
-abbrev pub RunCommand : Option Files → RunNames → TopEnd → ℕ → Option (List ℕ) → Option (List ℕ) → Type 0
-RunCommand files names (Run end) retired old new = RunStarted files names end retired old new
-RunCommand files names end retired old new = new ≡ old
+-- what goes out before an answer of a run
+abbrev pub RunCommand : Option Files → RunNames → TopEnd → Option (List ℕ) → Option (List ℕ) → Type 0
+RunCommand files names (Run end) old new = RunStarted files names end old new
+RunCommand files names end old new = new ≡ old
 
 -- the answers that a run gives once its files were read
 abbrev pub IsOwnOfRun : TopEnd → Type 0

@@ -6,12 +6,14 @@ mod build;
 mod ends;
 mod files;
 mod list;
+mod make;
 mod mean;
 mod report;
 mod run;
 mod top;
 
 use aegis_edge::{HostFolder, HostSink};
+use answer::Outcome;
 use ends::TopEnd;
 use std::alloc::AllocError;
 use std::env;
@@ -32,7 +34,14 @@ fn main(rt: HostRuntime) -> ExitCode {
             &mut out,
             &mut notes,
         ),
-        Err(AllocError) => noted(TopEnd::OutOfMemory, 0, &mut notes),
+        Err(AllocError) => noted(
+            Outcome {
+                end: TopEnd::OutOfMemory,
+                retired: 0,
+                reported: true,
+            },
+            &mut notes,
+        ),
     };
     ExitCode::from(finish.status)
 }

@@ -17,7 +17,7 @@ use region_plan::PlanError;
 /// The words of the commands.
 const USAGE_OF_RUN: &str = "usage: run SOURCE SCRIPT INPUT FUEL KEY NONCE";
 
-const USAGE_OF_THE_OTHERS: &str = ", mean SOURCE INPUT TURNS, build SOURCE, list IMAGE";
+const USAGE_OF_THE_OTHERS: &str = ", mean SOURCE INPUT TURNS, build SOURCE, list IMAGE, make N";
 
 /// A line with its line feed.
 pub type Line = ArrayString<256>;

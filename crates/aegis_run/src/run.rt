@@ -1,5 +1,5 @@
 //! The command `run`.
-ghost use Rattle.std.specs.Prelude.{◌≡◌, None, IfOk, IfErr};
+ghost use Rattle.std.specs.Prelude.{◌≡◌, None, true, IfOk, IfErr};
 ghost use Rattle.aegis_words.specs.CommandTable as asks;
 ghost use Rattle.aegis_words.specs.KeptWords.{names_of};
 ghost use Rattle.c_grammar.specs.declared.Program.{Program};
@@ -8,6 +8,7 @@ ghost use Rattle.aegis_run.specs.Answers.{IsFileFault, IsWriteFault, RisesWhere}
 ghost use Rattle.aegis_run.specs.Causes.{IsAnswered};
 ghost use Rattle.aegis_run.specs.FilesRead.{IsStopped, RunReady, SendsRun};
 ghost use Rattle.aegis_run.specs.RunCommand.{RunCommand};
+ghost use Rattle.aegis_run.specs.RunImage.{RunsImage};
 
 use crate::answer::Outcome;
 use crate::ends::{TopEnd, end_of};
@@ -39,14 +40,21 @@ pub fn answer_run<F: Folder, K: Sink>(
         (F.faults folder.old) (F.faults folder.new) (F.asked folder.old) (F.asked folder.new) result.end }
     ensures folder_count { (IsFileFault result.end → ⊥) → F.faults folder.new ≡ F.faults folder.old }
     ensures kept { F.files folder.new ≡ F.files folder.old }
-    ensures run { RunCommand (F.files folder.old) (names_of names.now) result.end result.retired
+    ensures run { RunCommand (F.files folder.old) (names_of names.now) result.end
+        (K.written out.old) (K.written out.new) }
+    ensures image { RunsImage (F.files folder.old) (names_of names.now) result.end result.retired
         (K.written out.old) (K.written out.new) }
     ensures out_count { RisesWhere (IsWriteFault result.end) (K.faults out.old) (K.faults out.new) }
     ensures out_still_unlimited { K.limit out.new ≡ None }
+    ensures reported { result.reported ≡ true }
 {
     match prepare(alloc, folder, names) {
         Ok(prepared) => run_prepared(alloc, &prepared, names.fuel, out),
-        Err(end) => Outcome { end, retired: 0 },
+        Err(end) => Outcome {
+            end,
+            retired: 0,
+            reported: true,
+        },
     }
 }
 
@@ -84,15 +92,18 @@ fn run_prepared<K: Sink>(alloc: Global, prepared: &Prepared, fuel: u64, out: &mu
         (K.written out.old) (K.written out.new) }
     ensures out_count { RisesWhere (IsWriteFault result.end) (K.faults out.old) (K.faults out.new) }
     ensures still_unlimited { K.limit out.new ≡ None }
+    ensures reported { result.reported ≡ true }
 {
     match run_compiled(alloc, &prepared.image, prepared.input.as_slice(), fuel, out) {
         Ok(ran) => Outcome {
             end: TopEnd::Run(end_of(ran)),
             retired: ran.retired,
+            reported: true,
         },
         Err(OutOfMemory) => Outcome {
             end: TopEnd::OutOfMemory,
             retired: 0,
+            reported: true,
         },
     }
 }

@@ -33,7 +33,7 @@ fn sinks_of_run(alloc: Global, failing: &[(u64, u64)]) -> Result<(MemSink, MemSi
 fn runs(rt: HostRuntime) -> Result<(), Fail> {
     let (out, notes) = sinks_of_run(rt.alloc(), &[])?;
     assert_eq!(rt; out.bytes(), b"Hi".as_slice());
-    assert_eq!(rt; notes.bytes(), b"ended retired 28 events 0\n".as_slice());
+    assert_eq!(rt; notes.bytes(), b"ended retired 31 events 0\n".as_slice());
     let (out, notes) = sinks_of_run(rt.alloc(), &[(1, 0)])?;
     assert_eq!(rt; out.bytes(), b"H".as_slice());
     assert_eq!(rt; notes.bytes(), b"write fault\n".as_slice());

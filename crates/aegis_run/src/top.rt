@@ -1,16 +1,23 @@
 //! The call that does all that the program does.
-ghost use Rattle.std.specs.Prelude.{◌≡◌, ◌↔◌, ℕ, None, false, IfSome};
+ghost use Rattle.std.specs.Prelude.{◌≡◌, ◌↔◌, ℕ, None, false, map, string_bytes, IfSome};
 ghost use Rattle.std.specs.Option.{option_map};
+ghost use Rattle.aegis_words.specs.BuildWordRow.{build_row};
 ghost use Rattle.aegis_words.specs.CommandTable.{command_in};
+ghost use Rattle.aegis_words.specs.ListWordRow.{list_row};
+ghost use Rattle.aegis_words.specs.MakeWordRow.{make_row};
+ghost use Rattle.aegis_words.specs.MeanWordRow.{mean_row};
+ghost use Rattle.aegis_words.specs.RunWordRow.{run_row};
 ghost use Rattle.aegis_run.specs.Answers.{IsFileFault, IsWriteFault, RisesWhere};
-ghost use Rattle.aegis_run.specs.Causes.{AreTold, Cause, Completes, IfBuild, IfList, IfMean, IfRun, RefusesWhere};
+ghost use Rattle.aegis_run.specs.Causes.{AreTold, Cause, Completes, RefusesWhere};
 ghost use Rattle.aegis_run.specs.BuildCommand.{BuildCommand};
 ghost use Rattle.aegis_run.specs.ListCommand.{ListCommand};
+ghost use Rattle.aegis_run.specs.MakeCommand.{MakeCommand};
 ghost use Rattle.aegis_run.specs.MeanCommand.{MeanCommand};
-ghost use Rattle.aegis_run.specs.Report.{Notes, line_of, status_of as status_of_answer};
+ghost use Rattle.aegis_run.specs.Report.{Notes, is_reported, line_of, line_where, status_of as status_of_answer};
 ghost use Rattle.aegis_run.specs.RunCommand.{RunCommand};
+ghost use Rattle.aegis_run.specs.RunImage.{RunsImage};
 
-use crate::answer::answer_words;
+use crate::answer::{Outcome, answer_words};
 use crate::ends::{Finish, TopEnd, status_of};
 use crate::report::{Line, report_line};
 use aegis_edge::{Folder, Sink};
@@ -19,7 +26,9 @@ use std::alloc::Global;
 /// Does what the words after the program's name say. `run SOURCE SCRIPT INPUT FUEL KEY NONCE` reads the three
 /// files from the folder, compiles the source and runs it; each byte goes to `out` as it is released.
 /// `mean SOURCE INPUT TURNS` reads the two files and evaluates the source, with at most so many loop turns; its
-/// bytes go to `out` once it has ended. `build SOURCE` writes the image of the source to `out`. `list IMAGE` reads the file and writes the listing of its code to `out`. One line on the end goes to `notes`.
+/// bytes go to `out` once it has ended. `build SOURCE` writes the image of the source to `out`. `list IMAGE` reads
+/// the file and writes the listing of its code to `out`. `make N` runs a made source of N functions and writes one
+/// line on its bytes and its end to `out`. One line on the end goes to `notes`.
 pub fn aegis<F: Folder, K: Sink, N: Sink>(
     alloc: Global,
     words: &[String],
@@ -42,20 +51,27 @@ pub fn aegis<F: Folder, K: Sink, N: Sink>(
     ensures complete { AreTold (F.files folder.old) → IfSome (command_in words.now) (λ command.
         Completes (F.files folder.old) command result.end) }
 
-    // What each command sends out before its answer, and what its line counts. Words that are none send nothing.
-    ensures run { IfRun (command_in words.now) (λ names. (retired : ℕ)
-        × RunCommand (F.files folder.old) names result.end retired (K.written out.old) (K.written out.new)
-        × Notes (line_of result.end retired) result.noted (N.written notes.old) (N.written notes.new)) }
-    ensures mean { IfMean (command_in words.now) (λ names.
+    // What each command sends out before its answer. Words that are none send nothing.
+    ensures run { IfSome (run_row (map string_bytes words.now)) (λ names.
+        RunCommand (F.files folder.old) names result.end (K.written out.old) (K.written out.new)) }
+    ensures mean { IfSome (mean_row (map string_bytes words.now)) (λ names.
         MeanCommand (F.files folder.old) names result.end (K.written out.old) (K.written out.new)) }
-    ensures build { IfBuild (command_in words.now) (λ names.
+    ensures build { IfSome (build_row (map string_bytes words.now)) (λ names.
         BuildCommand (F.files folder.old) names result.end (K.written out.old) (K.written out.new)) }
-    ensures list { IfList (command_in words.now) (λ names.
+    ensures list { IfSome (list_row (map string_bytes words.now)) (λ names.
         ListCommand (F.files folder.old) names result.end (K.written out.old) (K.written out.new)) }
+    ensures make { IfSome (make_row (map string_bytes words.now)) (λ names.
+        MakeCommand names result.end (K.written out.old) (K.written out.new)) }
     ensures silent { command_in words.now ≡ None → K.written out.new ≡ K.written out.old }
 
-    // What notes took: the line of the answer, or a front of it where `noted` is false.
-    ensures line { (retired : ℕ) × Notes (line_of result.end retired) result.noted
+    // Which image a run runs, and the number of its instructions, which its line tells.
+    ensures image { IfSome (run_row (map string_bytes words.now)) (λ names. (retired : ℕ)
+        × RunsImage (F.files folder.old) names result.end retired (K.written out.old) (K.written out.new)
+        × Notes (line_of result.end retired) result.noted (N.written notes.old) (N.written notes.new)) }
+
+    // What notes took: the line of the answer, or a front of it where `noted` is false. The run of a `make` has none.
+    ensures line { (retired : ℕ)
+        × Notes (line_where (is_reported (command_in words.now) result.end) result.end retired) result.noted
         (N.written notes.old) (N.written notes.new) }
     ensures status { result.status ≡ status_of_answer result.end result.noted }
 
@@ -70,25 +86,38 @@ pub fn aegis<F: Folder, K: Sink, N: Sink>(
     ensures notes_still_unlimited { N.limit notes.new ≡ None }
 {
     let outcome = answer_words(alloc, words, folder, out);
-    noted(outcome.end, outcome.retired, notes)
+    noted(outcome, notes)
 }
 
-/// Writes the line of an answer, where it has one, and of a run that ended after `retired` instructions.
-pub fn noted<N: Sink>(end: TopEnd, retired: u64, notes: &mut N) -> Finish
+/// Writes the line of an answer, where it has one and is told.
+pub fn noted<N: Sink>(outcome: Outcome, notes: &mut N) -> Finish
     requires { N.limit notes.old ≡ None }
 
-    ensures end { result.end ≡ end }
-    ensures line { Notes (line_of end retired) result.noted (N.written notes.old) (N.written notes.new) }
+    ensures end { result.end ≡ outcome.end }
+    ensures line { Notes (line_where outcome.reported outcome.end outcome.retired) result.noted
+        (N.written notes.old) (N.written notes.new) }
     ensures count { RisesWhere (result.noted ≡ false) (N.faults notes.old) (N.faults notes.new) }
     ensures still_unlimited { N.limit notes.new ≡ None }
-    ensures status { result.status ≡ status_of_answer end result.noted }
+    ensures status { result.status ≡ status_of_answer outcome.end result.noted }
 {
-    let line = report_line(&end, retired);
+    let line = line_on(&outcome);
     let noted = write_line(&line, notes);
     Finish {
-        status: status_of(&end, noted),
-        end,
+        status: status_of(&outcome.end, noted),
+        end: outcome.end,
         noted,
+    }
+}
+
+/// The line of an answer, where it has one and is told.
+fn line_on(outcome: &Outcome) -> Option<Line>
+    ensures { option_map (λ line. line.bytes) result
+        ≡ line_where outcome.now.reported outcome.now.end outcome.now.retired }
+{
+    if outcome.reported {
+        report_line(&outcome.end, outcome.retired)
+    } else {
+        None
     }
 }
 

@@ -4,12 +4,13 @@ use Rattle.std.specs.Prelude.{codes}
 use Rattle.hex.specs.Hex.{decode_pairs}
 use Rattle.aegis_words.specs.declared.file.File.TheVariants.{Source, Script, Input, Image}
 use Rattle.aegis_words.specs.FileSteps.{limit_for, askings_for}
-use Rattle.aegis_words.specs.NumberWords.{is_number, bound_in, hex_bytes}
+use Rattle.aegis_words.specs.NumberWords.{is_number, bound_in, count_in, hex_bytes}
 use Rattle.aegis_words.specs.RunWordRow.{RunNames, run_row, run_steps}
 use Rattle.aegis_words.specs.MeanWordRow.{MeanNames, mean_row, mean_steps}
 use Rattle.aegis_words.specs.BuildWordRow.{BuildNames, build_row, build_steps}
 use Rattle.aegis_words.specs.ListWordRow.{ListNames, list_row, list_steps}
-use Rattle.aegis_words.specs.CommandTable.{Run, Mean, Build, Listing, rows, first_fitting, step_after}
+use Rattle.aegis_words.specs.MakeWordRow.{make_row}
+use Rattle.aegis_words.specs.CommandTable.{Run, Mean, Build, Listing, Make, rows, first_fitting, step_after}
 
 -- ---- words
 
@@ -30,6 +31,13 @@ signed_fuel = refl
 
 no_digits : is_number [] ≡ false
 no_digits = refl
+
+-- the number of a made source: the least, the greatest, with a zero before it, and those that are none
+counts : (count_in (codes "1") ≡ Some 1) × (count_in (codes "48") ≡ Some 48) × (count_in (codes "07") ≡ Some 7)
+counts = (refl, refl, refl)
+
+no_counts : (count_in (codes "0") ≡ None) × (count_in (codes "00") ≡ None) × (count_in (codes "49") ≡ None) × (count_in (codes "007") ≡ None) × (count_in (codes "+7") ≡ None) × (count_in [] ≡ None)
+no_counts = (refl, refl, refl, refl, refl, refl)
 
 hex_of_two : hex_bytes 2 (codes "0aFf") ≡ Some (10 ∷ 255 ∷ [])
 unfolding decode_pairs
@@ -135,6 +143,18 @@ list_of_two = refl
 list_misspelled : first_fitting rows (codes "lists" ∷ codes "hi.image" ∷ []) ≡ None
 list_misspelled = refl
 
+make_ordinary : first_fitting rows (codes "make" ∷ codes "07" ∷ []) ≡ Some (Make (record { number = 7 }))
+make_ordinary = refl
+
+make_of_nothing : first_fitting rows (codes "make" ∷ codes "0" ∷ []) ≡ None
+make_of_nothing = refl
+
+make_of_two : make_row (codes "make" ∷ codes "8" ∷ codes "8" ∷ []) ≡ None
+make_of_two = refl
+
+make_misspelled : first_fitting rows (codes "makes" ∷ codes "8" ∷ []) ≡ None
+make_misspelled = refl
+
 -- ---- files
 
 limits : (limit_for Source ≡ 262144) × (limit_for Script ≡ 1048576) × (limit_for Input ≡ 65536) × (limit_for Image ≡ 1048576)
@@ -173,6 +193,9 @@ list_first = refl
 
 list_after_all : step_after (Listing list_names) ([] ∷ []) ≡ None
 list_after_all = refl
+
+make_reads_none : step_after (Make (record { number = 7 })) [] ≡ None
+make_reads_none = refl
 
 askings_at_three : askings_for 3 (record { file = Script; name = 7 ∷ [] } ∷ []) ≡ record { name = 7 ∷ []; faults = 3 } ∷ []
 askings_at_three = refl

@@ -6,6 +6,7 @@ use Rattle.aegis_words.specs.FileSteps.{NextStep, step_in}
 use Rattle.aegis_words.specs.RunWordRow.{RunNames, run_row, run_steps}
 use Rattle.aegis_words.specs.BuildWordRow.{BuildNames, build_row, build_steps}
 use Rattle.aegis_words.specs.MeanWordRow.{MeanNames, mean_row, mean_steps}
+use Rattle.aegis_words.specs.MakeWordRow.{MakeNames, make_row, make_steps}
 use Rattle.aegis_words.specs.ListWordRow.{ListNames, list_row, list_steps}
 
 -- what words ask for
@@ -14,6 +15,7 @@ pub data Command : Type 0 where
   Mean : MeanNames → Command
   Build : BuildNames → Command
   Listing : ListNames → Command
+  Make : MakeNames → Command
 
 -- a row of the table: the command that words are, if they are of this row
 abbrev pub CommandRow : Type 0
@@ -26,6 +28,7 @@ rows =
     ∷ (λ words. option_map Mean (mean_row words))
     ∷ (λ words. option_map Build (build_row words))
     ∷ (λ words. option_map Listing (list_row words))
+    ∷ (λ words. option_map Make (make_row words))
     ∷ []
 
 -- a command, or another where there is none
@@ -48,3 +51,4 @@ step_after (Run names) = step_in (run_steps names)
 step_after (Mean names) = step_in (mean_steps names)
 step_after (Build names) = step_in (build_steps names)
 step_after (Listing names) = step_in (list_steps names)
+step_after (Make names) = step_in (make_steps names)

@@ -4,6 +4,7 @@ pub mod FileReading
 pub mod FileSteps
 pub mod KeptWords
 pub mod ListWordRow
+pub mod MakeWordRow
 pub mod MeanWordRow
 pub mod NumberWords
 pub mod RunWordRow

@@ -1,12 +1,14 @@
 //! Words that write numbers and bytes.
-ghost use Rattle.std.specs.Prelude.{◌≡◌, IsTrue};
+ghost use Rattle.std.specs.Prelude.{◌≡◌, ◌≤◌, IfSome, IsTrue};
 ghost use Rattle.std.specs.List.{list_all};
 ghost use Rattle.std.specs.Char.{is_ascii_digit};
 ghost use Rattle.std.specs.Str.Parse.{digits_value};
-ghost use Rattle.aegis_words.specs.NumberWords.{bound_in as bound_in_word, hex_bytes, is_number as is_number_word};
+ghost use Rattle.work_maker.specs.declared.TheConstants.{MOST_FUNCTIONS};
+ghost use Rattle.aegis_words.specs.NumberWords.{bound_in as bound_in_word, count_in as count_in_word, hex_bytes, is_number as is_number_word};
 
 use aegis_num::limits::MAX_FUEL;
 use hex::FromHex;
+use work_maker::MOST_FUNCTIONS;
 
 /// The fuel or the number of turns that a word writes: one to ten decimal digits of at most 33,554,432.
 pub fn bound_in(word: &str) -> Option<u64>
@@ -17,6 +19,21 @@ pub fn bound_in(word: &str) -> Option<u64>
     }
     let number = number_of(word);
     (number <= MAX_FUEL).then_some(number)
+}
+
+/// How many functions a made source is to have, as a word writes it: one or two decimal digits of a number from 1 to 48.
+pub fn count_in(word: &str) -> Option<u32>
+    ensures value { result ≡ count_in_word word.now }
+    ensures within { IfSome result (λ number. (1 ≤ number) × (number ≤ MOST_FUNCTIONS)) }
+{
+    if !is_number(word) || word.len() > 2 {
+        return None;
+    }
+    let number = number_of(word);
+    if number < 1 || number > MOST_FUNCTIONS as u64 {
+        return None;
+    }
+    Some(number as u32)
 }
 
 /// Whether a word is one to ten decimal digits.

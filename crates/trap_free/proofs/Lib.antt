@@ -1,0 +1,2 @@
+pub mod KeptRuns
+mod SafeExamples
