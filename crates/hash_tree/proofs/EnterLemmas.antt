@@ -2,7 +2,7 @@
 use Rattle.std.proofs.Common.{◌≡◌, ℕ, suc, ◌+◌, ◌-◌, ◌<◌, ◌≤◌, true, false, List, [], ◌∷◌, ◌++◌, length, Some, refl, sym, ap, ◌∙◌, subst, inl, inr, ◌⊎◌, arith, length-append}
 use Rattle.std.specs.Prelude.{◌≢◌, map, filter_map, replicate, slice_get}
 use Rattle.std.proofs.lemmas.List.{append-nil, append_assoc, map-append}
-use Rattle.std.proofs.lemmas.List.Elements.{filter_map-append}
+use Rattle.std.proofs.lemmas.List.Elements.{All-append, All-nil, All-push, filter_map-append}
 use Rattle.aegis_num.specs.declared.storage.Block.{Block}
 use Rattle.aegis_num.specs.declared.storage.Place.TheVariants.{Tree}
 use Rattle.regions.specs.declared.layout.Layout.{Layout}
@@ -14,7 +14,7 @@ use Rattle.off_chip.specs.Histories.{history}
 use Rattle.off_chip.specs.Residency.{is_resident}
 use Rattle.off_chip.specs.WriteBacks.{last_write}
 use Rattle.block_hash.specs.ProgramParts.{HasTaken, ProgramParts}
-use Rattle.hash_tree.specs.Entering.{BlockMove, reads_block, writes_block, move_of, is_static, WritesPayload, StaticEntered, BlocksEntered}
+use Rattle.hash_tree.specs.Entering.{BlockMove, reads_block, writes_block, move_of, is_static, WritesPayload, StaticEntered, BlocksEntered, WritesZeros}
 use Rattle.hash_tree.specs.Schemes.{Scheme, unveiled}
 use Rattle.hash_tree.specs.Standing.{NodeLaidOut}
 use Rattle.hash_tree.specs.TreeSteps.{Appends}
@@ -74,6 +74,7 @@ module _ (layout : Layout) (scheme : Scheme) (P Q : ℕ → Type 0) (old_program
     events = one.events ++ two.events;
     appended = two.appended ∙ ap (λ (t : List Event). t ++ two.events) one.appended ∙ append_assoc old one.events two.events;
     order = map-append move_of one.events two.events ∙ ap (λ (ms : List BlockMove). ms ++ map move_of two.events) one.order ∙ ap (λ (ms : List BlockMove). first ++ ms) two.order;
+    zeros_written = All-append (WritesZeros layout scheme) one.events two.events one.zeros_written two.zeros_written;
     added = omega (arith, two.added, one.added, ap (λ (xs : List (List ℕ)). length xs) both-reads, length-append (filter_map payload_read one.events) (filter_map payload_read two.events));
     taken = λ payloads has.
         subst (λ (xs : List (List ℕ)). HasTaken program xs)
@@ -108,6 +109,7 @@ blocks-as layout scheme P Q old_program program moves old new entered to from = 
   events = entered.events;
   appended = entered.appended;
   order = entered.order;
+  zeros_written = entered.zeros_written;
   added = entered.added;
   taken = entered.taken;
   writes = λ n none. entered.writes n (λ p. none (to n p));
@@ -122,17 +124,29 @@ blocks-as layout scheme P Q old_program program moves old new entered to from = 
 
 -- ---- one block
 
+written-same : (n m : ℕ) (block other : Block) → BlockWrite (Tree n) block ≡ BlockWrite (Tree m) other → (n ≡ m) × (block ≡ other)
+written-same n m block other same = (cc, cc)
+
 -- it is written
 pub blocks-write : (layout : Layout) (scheme : Scheme) (program : ProgramParts) (n : ℕ) (payload digest : List ℕ) (old new : List Event)
     → (back : WritesPayload scheme n payload digest old new) → (0 < n → scheme.digests.parent n ≢ n) → NodeLaidOut scheme (BlockWrite (Tree n) back.block) (history old)
-    → (scheme.nodes ≤ n → is_static layout n ≡ false → unveiled scheme n back.block ≡ replicate 64 0) → (is_static layout n ≡ true → ⊥)
+    → (scheme.nodes ≤ n → is_static layout n ≡ false → unveiled scheme n back.block ≡ replicate 64 0)
+    → (scheme.nodes ≤ n → is_static layout n ≡ false → payload ≡ replicate 64 0) → (is_static layout n ≡ true → ⊥)
     → BlocksEntered layout scheme (λ m. m ≡ n) program program (writes_block n ∷ []) old new
-blocks-write layout scheme program n payload digest old new back apart laid zeros other =
+blocks-write layout scheme program n payload digest old new back apart laid zeros none other =
     let block = back.block in
     let here = write-here n block old new back.event in record {
       events = BlockWrite (Tree n) block ∷ [];
       appended = back.event;
       order = refl;
+      zeros_written = All-push (WritesZeros layout scheme) [] (BlockWrite (Tree n) block) (All-nil (WritesZeros layout scheme)) (record {
+        zeros = λ m written same leaf no'.
+            let both = written-same n m block written same in
+            ap (λ (b : Block). b.payload) (sym both.1) ∙ back.payload_is
+            ∙ ap (λ (xs : List ℕ). scheme.veiled n block.stamp xs)
+            (none (subst (λ (k : ℕ). scheme.nodes ≤ k) (sym both.0) leaf) (ap (λ (k : ℕ). is_static layout k) both.0 ∙ no'))
+            ∙ ap (λ (k : ℕ). scheme.veiled k block.stamp (replicate 64 0)) both.0 ∙ ap (λ (b : Block). scheme.veiled m b.stamp (replicate 64 0)) both.1;
+      });
       added = omega arith;
       taken = λ payloads has. subst (λ (xs : List (List ℕ)). HasTaken program xs) (sym (append-nil payloads)) has;
       writes = λ m none. write-other n block old new back.event m none;
@@ -163,6 +177,13 @@ blocks-read layout scheme old_program program n found_block digest old middle ne
       events = BlockRead (Tree n) found_block ∷ BlockWrite (Tree n) block ∷ [];
       appended = back.event ∙ ap (λ (t : List Event). t ++ BlockWrite (Tree n) block ∷ []) event ∙ append_assoc old (BlockRead (Tree n) found_block ∷ []) (BlockWrite (Tree n) block ∷ []);
       order = refl;
+      zeros_written = All-push (WritesZeros layout scheme) (BlockRead (Tree n) found_block ∷ []) (BlockWrite (Tree n) block)
+          (All-push (WritesZeros layout scheme) [] (BlockRead (Tree n) found_block) (All-nil (WritesZeros layout scheme)) (record { zeros = λ m written same. cc }))
+          (record {
+            zeros = λ m written same leaf no'.
+                let both = written-same n m block written same in
+                let e : true ≡ false = sym static ∙ ap (λ (k : ℕ). is_static layout k) both.0 ∙ no' in cc;
+          });
       added = omega (arith, added);
       taken = taken;
       writes = λ m none. write-other n block middle new back.event m none ∙ read-writes n found_block old middle event m;

@@ -1,5 +1,5 @@
 -- What entering one block of the tree of a layout does, and what all of it leads to.
-use Rattle.std.proofs.Common.{◌≡◌, ℕ, ◌+◌, ◌^◌, ◌<◌, ◌≤◌, Bool, true, false, List, [], ◌∷◌, ◌++◌, length, Some, sym, ap, ◌∙◌, subst, arith}
+use Rattle.std.proofs.Common.{◌≡◌, ℕ, ◌+◌, ◌^◌, ◌<◌, ◌≤◌, Bool, true, false, List, [], ◌∷◌, ◌++◌, length, Some, sym, ap, ◌∙◌, subst, arith, refl}
 use Rattle.std.specs.Prelude.{◌≢◌, replicate, if◌then◌else◌}
 use Rattle.aegis_num.specs.declared.storage.Block.{Block}
 use Rattle.aegis_num.specs.declared.storage.Place.TheVariants.{Tree}
@@ -67,7 +67,7 @@ leaf-other layout veiled lawful program n digest old new leaf no' back =
     record {
       blocks = subst (λ (ms : List BlockMove). BlocksEntered layout scheme (λ m. m ≡ n) program program ms old new) (sym moves)
           (blocks-write layout scheme program n (replicate 64 0) digest old new back (λ above. parent-less n above) (λ node. absurd (omega (arith, node, leaf)))
-          (λ _ _. holds-payload scheme lawful n (replicate 64 0) digest old new back) (λ yes'. let e : true ≡ false = sym yes' ∙ sym no' in cc));
+          (λ _ _. holds-payload scheme lawful n (replicate 64 0) digest old new back) (λ _ _. refl) (λ yes'. let e : true ≡ false = sym yes' ∙ sym no' in cc));
       digest_is = first-digest scheme n (replicate 64 0) digest old new back;
       expected = write-expected scheme.digests n back.block old new back.event ∙ ap (λ (d : List ℕ). Some d) (sym back.digest_is);
     }

@@ -1,6 +1,8 @@
 -- Two small layouts that are entered, and what each definition of entering says of it. The answers were worked out by hand from the rules.
-use Rattle.std.proofs.Common.{◌≡◌, ℕ, zero, suc, ◌+◌, ◌<◌, ◌≤◌, true, false, List, [], ◌∷◌, ◌++◌, length, replicate, Option, Some, None, refl, sym, ap, ◌∙◌, inl, inr, lit≤, lit<, arith, get_or}
+use Rattle.std.proofs.Common.{◌≡◌, ℕ, zero, suc, ◌+◌, ◌<◌, ◌≤◌, true, false, List, [], ◌∷◌, ◌++◌, length, drop, replicate, Option, Some, None, refl, sym, ap, ◌∙◌, inl, inr, lit≤, lit<, arith, get_or}
 use Rattle.std.specs.Prelude.{map, filter_map, slice_get}
+use Rattle.std.specs.List.{All}
+use Rattle.std.proofs.lemmas.List.Elements.{All-cons, All-nil}
 use Rattle.aegis_num.specs.declared.storage.Block.{Block}
 use Rattle.aegis_num.specs.declared.storage.Place.TheVariants.{Tree, Log}
 use Rattle.regions.specs.declared.layout.Layout.{Layout}
@@ -13,7 +15,7 @@ use Rattle.off_chip.specs.Boundaries.{payload_read}
 use Rattle.block_hash.specs.BlockStrings.{program_digest}
 use Rattle.block_hash.proofs.StringLemmas.{length-sha1}
 use Rattle.block_hash.specs.BlockStrings.{program_string}
-use Rattle.hash_tree.specs.Entering.{BlockMove, reads_block, writes_block, no_move, move_of, is_static, leaf_moves, moves_below, entry_moves, Entered, IsUnder, statics_before, first_leaf, WritesPayload}
+use Rattle.hash_tree.specs.Entering.{BlockMove, reads_block, writes_block, no_move, move_of, is_static, leaf_moves, moves_below, entry_moves, Entered, IsUnder, statics_before, first_leaf, WritesPayload, WritesZeros}
 use Rattle.hash_tree.specs.Standing.{State, contents}
 use Rattle.hash_tree.proofs.Examples.{tree, leaf, node}
 
@@ -124,6 +126,51 @@ stored byte stamp = record { payload = replicate 63 0 ++ byte ∷ []; stamp = st
 abbrev root_block : Block
 root_block = node (1 ∷ 1 ∷ 2 ∷ 2 ∷ 3 ∷ 3 ∷ []) 4
 
+-- ---- where zeros are written
+
+number-of : (n m : ℕ) (block other : Block) → BlockWrite (Tree n) block ≡ BlockWrite (Tree m) other → n ≡ m
+number-of n m block other same = cc
+
+block-of : (n m : ℕ) (block other : Block) → BlockWrite (Tree n) block ≡ BlockWrite (Tree m) other → block ≡ other
+block-of n m block other same = cc
+
+-- with the veil of the number and the stamp over them
+zeros-at : (m : ℕ) (block : Block) → block.payload ≡ tree.veiled m block.stamp (replicate 64 0) → WritesZeros two_blocks tree (BlockWrite (Tree m) block)
+zeros-at m block is = record {
+  zeros = λ n other same leaf no'.
+      let e : m ≡ n = number-of m n block other same in
+      let f : block ≡ other = block-of m n block other same in
+      ap (λ (b : Block). b.payload) (sym f) ∙ is ∙ ap (λ (k : ℕ). tree.veiled k block.stamp (replicate 64 0)) e ∙ ap (λ (b : Block). tree.veiled n b.stamp (replicate 64 0)) f;
+}
+
+-- in a node and in a static block whatever is
+any-node : (block : Block) → WritesZeros two_blocks tree (BlockWrite (Tree 0) block)
+any-node block = record { zeros = λ n other same leaf no'. let e : 0 ≡ n = number-of 0 n block other same in absurd (omega (arith, e, leaf)) }
+
+any-static : (block : Block) → WritesZeros two_blocks tree (BlockWrite (Tree 2) block)
+unfolding height_of
+any-static block = record {
+  zeros = λ n other same leaf no'.
+      let e : 2 ≡ n = number-of 2 n block other same in
+      let f : true ≡ false = ap (λ (k : ℕ). is_static two_blocks k) e ∙ no' in cc;
+}
+
+any-read : (block : Block) → WritesZeros two_blocks tree (BlockRead (Tree 2) block)
+any-read block = record { zeros = λ n other same. let e : BlockRead (Tree 2) block ≡ BlockWrite (Tree n) other = same in cc }
+
+-- another byte; and, where the veil is the stamp, zeros in clear
+zeros-other : WritesZeros two_blocks tree (BlockWrite (Tree 3) (leaf 7 3)) → ⊥
+unfolding height_of
+zeros-other writes =
+    let e : ◌≡◌ {A = ℕ} 7 0 = ap (λ (xs : List ℕ). get_or xs 0 0) (writes.zeros 3 (leaf 7 3) refl (lit≤ tt) refl) in
+    omega (arith, e)
+
+zeros-clear : WritesZeros two_blocks (record tree { veiled = λ n stamp payload. stamp ∷ payload }) (BlockWrite (Tree 3) (leaf 0 3)) → ⊥
+unfolding height_of
+zeros-clear writes =
+    let e : ◌≡◌ {A = ℕ} 0 3 = ap (λ (xs : List ℕ). get_or xs 0 0) (writes.zeros 3 (leaf 0 3) refl (lit≤ tt) refl) in
+    omega (arith, e)
+
 -- the events, where the third data block gets this byte, and block 2 this one
 abbrev events_of : ℕ → ℕ → List Event
 events_of byte other =
@@ -141,6 +188,11 @@ entered-two = record {
   events = events_of 12 0;
   appended = refl;
   order = refl;
+  zeros_written = All-cons (WritesZeros two_blocks tree) (BlockWrite (Tree 1) (stored 0 1)) (drop 1 (events_of 12 0)) (zeros-at 1 (stored 0 1) refl)
+      (All-cons (WritesZeros two_blocks tree) (BlockRead (Tree 2) (leaf 12 9)) (drop 2 (events_of 12 0)) (any-read (leaf 12 9))
+      (All-cons (WritesZeros two_blocks tree) (BlockWrite (Tree 2) (stored 12 2)) (drop 3 (events_of 12 0)) (any-static (stored 12 2))
+      (All-cons (WritesZeros two_blocks tree) (BlockWrite (Tree 3) (stored 0 3)) (drop 4 (events_of 12 0)) (zeros-at 3 (stored 0 3) refl)
+      (All-cons (WritesZeros two_blocks tree) (BlockWrite (Tree 0) root_block) [] (any-node root_block) (All-nil (WritesZeros two_blocks tree))))));
   reads = refl;
   answer_is = refl;
   statics = only;

@@ -144,6 +144,7 @@ module _ (layout : Layout) (veiled : ℕ → ℕ → List ℕ → List ℕ) (law
     events = entered.blocks.events;
     appended = entered.blocks.appended;
     order = entered.blocks.order;
+    zeros_written = entered.blocks.zeros_written;
     reads = omega (arith, start, ends, entered.blocks.added);
     answer_is = finishes (filter_map payload_read entered.blocks.events) (entered.blocks.taken [] taken);
     statics = λ k below.

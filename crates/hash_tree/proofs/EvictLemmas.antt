@@ -1,8 +1,8 @@
 -- What follows where a line is taken out, after it was written back or with a mark.
-use Rattle.std.proofs.Common.{◌≡◌, ℕ, ◌+◌, ◌<◌, false, List, length, Option, Some, None, refl, sym, ap, ◌∙◌, subst, inl, inr, arith, rules}
-use Rattle.std.specs.Prelude.{◌^◌, is_some, option_map}
+use Rattle.std.proofs.Common.{◌≡◌, ℕ, ◌+◌, ◌<◌, true, false, List, length, Option, Some, None, refl, sym, ap, ◌∙◌, subst, inl, inr, arith, rules}
+use Rattle.std.specs.Prelude.{◌≢◌, ◌^◌, is_some, option_map}
 use Rattle.std.specs.FinMap.{get, contains_key, remove, insert, len, gets}
-use Rattle.std.proofs.lemmas.Bool.{cases_eq}
+use Rattle.std.proofs.lemmas.Bool.{cases_eq, cases_lt}
 use Rattle.aegis_num.specs.declared.storage.Block.{Block}
 use Rattle.aegis_num.specs.declared.storage.Place.TheVariants.{Tree}
 use Rattle.regions.specs.declared.layout.Layout.{Layout}
@@ -14,10 +14,11 @@ use Rattle.off_chip.specs.Histories.{History, history, in_order, ◌◂◌}
 use Rattle.line_cache.specs.declared.lines.Line.{Line}
 use Rattle.line_cache.specs.LineMaps.{LineMap, Holds, dirty_at, payload_at, with_clean, clean_line, with_payload}
 use Rattle.line_cache.proofs.MapLemmas.{get-remove_other, len-held}
+use Rattle.hash_tree.specs.DueLines.{IsDue, dirty, above}
 use Rattle.hash_tree.specs.HashTrees.{scheme_of, state_of}
 use Rattle.hash_tree.specs.Schemes.{Scheme, IsLawful}
 use Rattle.hash_tree.specs.Standing.{State, Stands}
-use Rattle.hash_tree.specs.TreeSteps.{Appends, Puts, WritesBack, write, dropped, Evicted, KeepsDigest}
+use Rattle.hash_tree.specs.TreeSteps.{Appends, Puts, WrittenBack, WritesBack, write, dropped, TellsLine, node_written, leaf_written, line_dropped, Evicted, KeepsDigest}
 use Rattle.hash_tree.proofs.GrowthLemmas.{write-resident}
 use Rattle.hash_tree.proofs.RemoveLemmas.{Removed, leaves-dropped, leaves-written, stands-removed}
 use Rattle.off_chip.specs.WriteBacks.{StampsFit, block_writes}
@@ -52,16 +53,62 @@ puts-removed old new n same = record {
   other = λ m apart. ap (λ (l : LineMap). get l m) same ∙ get-remove_other old n m apart;
 }
 
+-- ---- a line that was written back, and then taken out
+
+-- what its write tells
+told-written : (scheme : Scheme) (old new : State) (n : ℕ) (line : Line) (block : Block) → line.dirty ≡ true → WrittenBack scheme old new n line block
+    → TellsLine scheme old.lines (BlockWrite (Tree n) block)
+told-written scheme old new n line block is step =
+    elim (cases_lt n scheme.nodes) [
+      | inl node ↦ node_written n block refl node (dirty n line step.held is)
+      | inr leaf ↦ leaf_written n block line refl leaf step.held is step.payload
+    ]
+
+-- which other lines are dirty
+waiting-written : (scheme : Scheme) (old new : State) (n : ℕ) (line : Line) (block : Block) → WrittenBack scheme old new n line block → (m : ℕ) (other : Line) → m ≢ n
+    → old.lines m ≡ Some other → other.dirty ≡ true → (now : Line) × (new.lines m ≡ Some now) × (now.dirty ≡ true)
+waiting-written scheme old new n line block step m other apart held is =
+    elim (cases_eq n 0) [
+      | inl root ↦ (other, step.other m apart (λ positive. absurd (omega (arith, positive, root))) ∙ held, is)
+      | inr some ↦
+          elim (cases_eq m (scheme.digests.parent n)) [
+            | inl here ↦
+                let parent = step.above (omega (arith, some)) in
+                (record { payload = parent.payload; dirty = true }, ap (λ (k : ℕ). new.lines k) here ∙ parent.set, refl)
+            | inr away ↦ (other, step.other m apart (λ _. away) ∙ held, is)
+          ]
+    ]
+
+due-written : (scheme : Scheme) (old new : State) (n : ℕ) (line : Line) (block : Block) → line.dirty ≡ true → WrittenBack scheme old new n line block → (m : ℕ) (now : Line) → m ≢ n
+    → new.lines m ≡ Some now → now.dirty ≡ true → IsDue scheme old.lines m
+due-written scheme old new n line block was step m now apart held is =
+    elim (cases_eq n 0) [
+      | inl root ↦ dirty m now (sym (step.other m apart (λ positive. absurd (omega (arith, positive, root)))) ∙ held) is
+      | inr some ↦
+          elim (cases_eq m (scheme.digests.parent n)) [
+            | inl here ↦ subst (λ (k : ℕ). IsDue scheme old.lines k) (sym here) (above n (omega (arith, some)) (dirty n line step.held was))
+            | inr away ↦ dirty m now (sym (step.other m apart (λ _. away)) ∙ held) is
+          ]
+    ]
+
+dirty-line : (line : Line) (o : Option Line) → o ≡ Some line → option_map (λ (l : Line). l.dirty) o ≡ Some true → line.dirty ≡ true
+dirty-line line o held is =
+    let e : Some line.dirty ≡ Some true = sym (ap (λ (o : Option Line). option_map (λ (l : Line). l.dirty) o) held) ∙ is in cc
+
+none-some : {P : Type 0} (o : Option Line) (line : Line) → o ≡ None → o ≡ Some line → P
+none-some o line none held = let e : None ≡ Some line = sym none ∙ held in cc
+
 -- after a write-back
 pub evicted-written : (scheme : Scheme) → IsLawful scheme → (old middle new : LineMap) (old_root middle_root new_root : List ℕ) (old_trace new_trace : List Event) (last n : ℕ)
-    → last < 2 ^ 64 → Stands scheme (state_of old old_root old_trace)
+    → last < 2 ^ 64 → dirty_at old n ≡ Some true → Stands scheme (state_of old old_root old_trace)
     → WritesBack scheme (state_of old old_root old_trace) (state_of middle middle_root new_trace) last n → new ≡ remove middle n → new_root ≡ middle_root
     → Evicted scheme (state_of old old_root old_trace) (state_of new new_root new_trace) n
-evicted-written scheme lawful old middle new old_root middle_root new_root old_trace new_trace last n fits stands back same root =
+evicted-written scheme lawful old middle new old_root middle_root new_root old_trace new_trace last n fits was stands back same root =
     let before = state_of old old_root old_trace in
     let between = state_of middle middle_root new_trace in
     let after = state_of new new_root new_trace in
     let step = back.step in
+    let is : back.line.dirty ≡ true = dirty-line back.line (before.lines n) step.held was in
     let below = stands.inside n back.line step.held in
     let first = stands-written scheme lawful before between n back.line back.block stands (subst (λ (k : ℕ). k < 2 ^ 64) (sym back.stamped) fits) step in
     let out : Removed scheme between after n (record { payload = back.line.payload; dirty = false }) = record {
@@ -83,6 +130,15 @@ evicted-written scheme lawful old middle new old_root middle_root new_root old_t
         gone = out.lines.here;
         others = λ m apart. ap (λ (o : Option Line). is_some o) (out.lines.other m apart) ∙ written-holds scheme before between n back.line back.block step m;
         leaves = λ m leaf apart. out.lines.other m apart ∙ written-leaves scheme lawful before between n back.line back.block below step m leaf apart;
+        told = told-written scheme before between n back.line back.block is step;
+        waiting = λ m line apart held due.
+            let now = waiting-written scheme before between n back.line back.block step m line apart held due in
+            (now.0, out.lines.other m apart ∙ now.1, now.2);
+        due = λ m line held due.
+            elim (cases_eq m n) [
+              | inl here ↦ none-some (after.lines m) line (ap (λ (k : ℕ). after.lines k) here ∙ out.lines.here) held
+              | inr apart ↦ due-written scheme before between n back.line back.block is step m line apart (sym (out.lines.other m apart) ∙ held) due
+            ];
       };
     }
 
@@ -120,6 +176,13 @@ evicted-dropped scheme lawful old new old_root new_root old_trace new_trace n st
         gone = out.lines.here;
         others = λ m apart. ap (λ (o : Option Line). is_some o) (out.lines.other m apart);
         leaves = λ m leaf apart. out.lines.other m apart;
+        told = line_dropped n line.0 refl line.1 line.2;
+        waiting = λ m other apart held is. (other, out.lines.other m apart ∙ held, is);
+        due = λ m other held is.
+            elim (cases_eq m n) [
+              | inl here ↦ none-some (after.lines m) other (ap (λ (k : ℕ). after.lines k) here ∙ out.lines.here) held
+              | inr apart ↦ dirty m other (sym (out.lines.other m apart) ∙ held) is
+            ];
       };
     }
 

@@ -8,7 +8,8 @@ use Rattle.off_chip.specs.declared.event.Event.TheVariants.{BlockRead, BlockWrit
 use Rattle.line_cache.specs.declared.lines.Line.{Line}
 use Rattle.hash_tree.specs.CachedLines.{Held}
 use Rattle.hash_tree.specs.Standing.{State}
-use Rattle.hash_tree.specs.Flushes.{IsDue, dirty, above, WritesDue, Flushed}
+use Rattle.hash_tree.specs.DueLines.{IsDue, dirty, above}
+use Rattle.hash_tree.specs.Flushes.{WritesDue, Flushed}
 use Rattle.hash_tree.proofs.Examples.{tree, leaf, node, loading, lines_loaded, loaded}
 
 abbrev dirty_line : Line

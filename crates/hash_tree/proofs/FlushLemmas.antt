@@ -14,7 +14,8 @@ use Rattle.off_chip.specs.declared.event.Event.TheVariants.{BlockWrite}
 use Rattle.line_cache.specs.declared.lines.Line.{Line}
 use Rattle.line_cache.specs.LineMaps.{LineMap, Holds, dirty_at}
 use Rattle.line_cache.proofs.MapLemmas.{get-remove_other, len-held}
-use Rattle.hash_tree.specs.Flushes.{IsDue, dirty, above, WritesDue, Flushed, LineFlushed, wrote, was_clean}
+use Rattle.hash_tree.specs.DueLines.{IsDue, dirty, above}
+use Rattle.hash_tree.specs.Flushes.{WritesDue, Flushed, LineFlushed, wrote, was_clean}
 use Rattle.hash_tree.specs.Schemes.{Scheme, IsLawful}
 use Rattle.hash_tree.specs.Standing.{State, Stands}
 use Rattle.hash_tree.specs.HashTrees.{scheme_of, state_of}

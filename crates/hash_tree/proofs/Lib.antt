@@ -22,6 +22,7 @@ mod Examples
 mod EntryExamples
 mod FlushExamples
 mod LeavingExamples
+mod MoveExamples
 pub mod LeavingLemmas
 mod StandingExamples
 pub mod LoadLemmas

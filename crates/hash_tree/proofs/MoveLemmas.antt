@@ -5,20 +5,23 @@ use Rattle.std.specs.List.{All, list_any}
 use Rattle.std.proofs.lemmas.List.Folds.{list_any-append}
 use Rattle.std.proofs.lemmas.Bool.{cases_eq, cases_Bool, eq-eqb}
 use Rattle.std.proofs.lemmas.List.{append-nil, append_assoc}
-use Rattle.std.proofs.lemmas.List.Elements.{All-append, All-contains, All-nil, All-push, All-weaker, Contains-append_right, filter_map-append}
+use Rattle.std.proofs.lemmas.List.Elements.{All-append, All-contains, All-contains_itself, All-nil, All-push, All-weaker, Contains-append_right, filter_map-append}
 use Rattle.aegis_num.specs.declared.storage.Block.{Block}
 use Rattle.aegis_num.specs.declared.storage.Place.TheVariants.{Tree}
 use Rattle.off_chip.specs.declared.event.Event.{Event}
-use Rattle.off_chip.specs.declared.event.Event.TheVariants.{BlockRead}
+use Rattle.off_chip.specs.declared.event.Event.TheVariants.{BlockRead, BlockWrite, Note}
+use Rattle.off_chip.specs.declared.event.Mark.TheVariants.{Drop}
 use Rattle.off_chip.specs.HonestMemory.{IsWhole}
 use Rattle.off_chip.specs.Histories.{history}
 use Rattle.off_chip.specs.ExpectedDigests.{expected_digest}
 use Rattle.off_chip.proofs.HistoryLemmas.{filter_map-push}
 use Rattle.line_cache.specs.declared.lines.Line.{Line}
+use Rattle.hash_tree.specs.CachedLines.{Held}
+use Rattle.hash_tree.specs.DueLines.{IsDue, dirty, above}
 use Rattle.hash_tree.specs.Schemes.{Scheme, IsLawful, unveiled}
 use Rattle.hash_tree.specs.Standing.{State, IsDeceived, Stands, IsKeptDigest}
 use Rattle.hash_tree.specs.AsWritten.{AllAsWritten}
-use Rattle.hash_tree.specs.TreeSteps.{Appends, Inserted, IsRemoval, write, dropped, Evicted, block_read, IsMove, read, removal, Moved, Stops}
+use Rattle.hash_tree.specs.TreeSteps.{Appends, Inserted, IsRemoval, write, dropped, TellsLine, was_read, node_written, leaf_written, line_dropped, Evicted, block_read, IsMove, read, removal, Moves, Moved, Stops}
 use Rattle.hash_tree.proofs.GrowthLemmas.{IsDeceived-more}
 use Rattle.hash_tree.proofs.InsertLemmas.{honest-digest, kept-expected, stands-inserted}
 use Rattle.hash_tree.proofs.WriteBackLemmas.{keeps-both}
@@ -77,6 +80,9 @@ moved-none scheme pinned state stands = record {
     kept = λ n pin held. held;
     came = λ n held. inl held;
     stays = λ n leaf held still. refl;
+    told = All-nil (TellsLine scheme state.lines);
+    waiting = λ n line held is now. (line, held, is);
+    due = λ n line held is. dirty n line held is;
   };
   deceived = λ deceived. deceived;
 }
@@ -87,6 +93,22 @@ no-read n event (dropped same) = ap (λ (e : Event). block_read e) same
 
 pub appended-more : (old middle new events : List Event) (event : Event) → middle ≡ old ++ events → Appends event middle new → new ≡ old ++ (events ++ event ∷ [])
 appended-more old middle new events event first last = last ∙ ap (λ (t : List Event). t ++ event ∷ []) first ∙ append_assoc old events (event ∷ [])
+
+-- an event takes one block out
+written-number : (n m : ℕ) (one other : Block) → BlockWrite (Tree n) one ≡ BlockWrite (Tree m) other → n ≡ m
+written-number n m one other same = cc
+
+dropped-number : (n m : ℕ) → Note (Drop (Tree n)) ≡ Note (Drop (Tree m)) → n ≡ m
+dropped-number n m same = cc
+
+write-no_drop : (n m : ℕ) (block : Block) → BlockWrite (Tree n) block ≡ Note (Drop (Tree m)) → ⊥
+write-no_drop n m block same = cc
+
+same-number : (n m : ℕ) (event : Event) → IsRemoval n event → IsRemoval m event → n ≡ m
+same-number n m event (write one same) (write other also) = written-number n m one other (sym same ∙ also)
+same-number n m event (write one same) (dropped also) = absurd (write-no_drop n m one (sym same ∙ also))
+same-number n m event (dropped same) (write other also) = absurd (write-no_drop m n other (sym also ∙ same))
+same-number n m event (dropped same) (dropped also) = dropped-number n m (sym same ∙ also)
 
 -- what is read is pinned
 pinned-at : (pinned : List ℕ) (old new : State) (event : Event) → IsMove pinned old new event → (n : ℕ) (block : Block) → event ≡ BlockRead (Tree n) block → Contains pinned n
@@ -103,6 +125,51 @@ read-pinned pinned old new events before n block rest parts each =
     let first : Contains (event ∷ rest) event = (0, omega arith, refl) in
     let inside : Contains events event = subst (λ (xs : List Event). Contains xs event) (sym parts) (Contains-append_right before (event ∷ rest) event first) in
     pinned-at pinned old new event (All-contains (IsMove pinned old new) events event each inside) n block refl
+
+-- ---- what an event tells of lines that were there before
+
+-- what has to be written after a part of a load had to be before it
+due-before : (scheme : Scheme) (old middle : Held) → ((n : ℕ) (line : Line) → middle n ≡ Some line → line.dirty ≡ true → IsDue scheme old n)
+    → (n : ℕ) → IsDue scheme middle n → IsDue scheme old n
+due-before scheme old middle back n (dirty m line held is) = back m line held is
+due-before scheme old middle back n (above child some due) = above child some (due-before scheme old middle back child due)
+
+removed-number : (pinned : List ℕ) (old new : State) (event : Event) (n : ℕ) → IsMove pinned old new event → IsRemoval n event → Contains pinned n → ⊥
+removed-number pinned old new event n (read m block same pin) is inside = let e : None ≡ Some m = sym (no-read n event is) ∙ ap (λ (v : Event). block_read v) same in cc
+removed-number pinned old new event n (removal m other free held gone) is inside = free (subst (λ (k : ℕ). Contains pinned k) (same-number n m event is other) inside)
+
+-- the line of a block that is not pinned was there
+line-before : (scheme : Scheme) (pinned : List ℕ) (old middle : State) (reads : List ℕ) (n : ℕ) (line : Line) → Moves scheme pinned old middle reads → (Contains pinned n → ⊥)
+    → middle.lines n ≡ Some line → is_some (old.lines n) ≡ true
+line-before scheme pinned old middle reads n line moves free held =
+    elim (moves.came n (ap (λ (o : Option Line). is_some o) held)) [ inl before ↦ before | inr came ↦ absurd (free came.0) ]
+
+clean-before : (scheme : Scheme) (pinned : List ℕ) (old middle : State) (reads : List ℕ) (n : ℕ) (line : Line) (o : Option Line) → Moves scheme pinned old middle reads
+    → old.lines n ≡ o → is_some o ≡ true → middle.lines n ≡ Some line → line.dirty ≡ false → (before : Line) × (old.lines n ≡ Some before) × (before.dirty ≡ false)
+clean-before scheme pinned old middle reads n line None moves is some held clean = cc
+clean-before scheme pinned old middle reads n line (Some before) moves is some held clean =
+    elim (cases_Bool before.dirty) [
+      | inr no' ↦ (before, is, no')
+      | inl yes' ↦
+          let now = moves.waiting n before is yes' (ap (λ (o : Option Line). is_some o) held) in
+          let e : Some now.0 ≡ Some line = sym now.1 ∙ held in
+          let f : now.0 ≡ line = cc in
+          let g : true ≡ false = sym now.2 ∙ ap (λ (l : Line). l.dirty) f ∙ clean in cc
+    ]
+
+-- what an event after a part of a load tells, it tells of the lines before that part
+told-before : (scheme : Scheme) (pinned : List ℕ) (old middle new : State) (reads : List ℕ) (event : Event) → Moves scheme pinned old middle reads → IsMove pinned middle new event
+    → TellsLine scheme middle.lines event → TellsLine scheme old.lines event
+told-before scheme pinned old middle new reads event moves move (was_read n block same) = was_read n block same
+told-before scheme pinned old middle new reads event moves move (node_written n block same node due) =
+    node_written n block same node (due-before scheme old.lines middle.lines moves.due n due)
+told-before scheme pinned old middle new reads event moves move (leaf_written n block line same leaf held is payload) =
+    let before = line-before scheme pinned old middle reads n line moves (removed-number pinned middle new event n move (write block same)) held in
+    leaf_written n block line same leaf (sym (moves.stays n leaf before (ap (λ (o : Option Line). is_some o) held)) ∙ held) is payload
+told-before scheme pinned old middle new reads event moves move (line_dropped n line same held is) =
+    let before = line-before scheme pinned old middle reads n line moves (removed-number pinned middle new event n move (dropped same)) held in
+    let was = clean-before scheme pinned old middle reads n line (old.lines n) moves refl before held is in
+    line_dropped n was.0 same was.1 was.2
 
 -- one more line left
 pub moved-evicted : (scheme : Scheme) (pinned : List ℕ) (old middle new : State) (reads : List ℕ) (n : ℕ) → Moved scheme pinned old middle reads → (Contains pinned n → ⊥)
@@ -157,6 +224,16 @@ moved-evicted scheme pinned old middle new reads n moved unpinned evicted =
               | inl here ↦ absurd (none-held (new.lines m) (ap (λ (k : ℕ). new.lines k) here ∙ step.gone) now)
               | inr apart ↦ step.leaves m leaf apart ∙ moves.stays m leaf held (sym (step.others m apart) ∙ now)
             ];
+        told = All-push (TellsLine scheme old.lines) moves.events step.event moves.told
+            (told-before scheme pinned old middle new reads step.event moves (removal n step.removal unpinned step.held step.gone) step.told);
+        waiting = λ m line held is now.
+            elim (cases_eq m n) [
+              | inl here ↦ absurd (none-held (new.lines m) (ap (λ (k : ℕ). new.lines k) here ∙ step.gone) now)
+              | inr apart ↦
+                  let mid = moves.waiting m line held is (sym (step.others m apart) ∙ now) in
+                  step.waiting m mid.0 apart mid.1 mid.2
+            ];
+        due = λ m line held is. due-before scheme old.lines middle.lines moves.due m (step.due m line held is);
       };
       deceived = λ deceived. more (moved.deceived deceived);
     }
@@ -236,6 +313,24 @@ moved-inserted scheme lawful pinned old middle new reads n block moved pin below
                   absurd (none-held (middle.lines m) (ap (λ (k : ℕ). middle.lines k) here ∙ none) mid)
               | inr apart ↦ step.lines.other m apart ∙ moves.stays m leaf held (sym (ap (λ (o : Option Line). is_some o) (step.lines.other m apart)) ∙ now)
             ];
+        told = All-push (TellsLine scheme old.lines) moves.events event moves.told (was_read n block refl);
+        waiting = λ m line held is now.
+            elim (cases_eq m n) [
+              | inl here ↦
+                  let mid : is_some (middle.lines m) ≡ true = moves.kept m (subst (λ (k : ℕ). Contains pinned k) (sym here) pin) (ap (λ (o : Option Line). is_some o) held) in
+                  absurd (none-held (middle.lines m) (ap (λ (k : ℕ). middle.lines k) here ∙ none) mid)
+              | inr apart ↦
+                  let mid = moves.waiting m line held is (sym (ap (λ (o : Option Line). is_some o) (step.lines.other m apart)) ∙ now) in
+                  (mid.0, step.lines.other m apart ∙ mid.1, mid.2)
+            ];
+        due = λ m line held is.
+            elim (cases_eq m n) [
+              | inl here ↦
+                  let l : Some line ≡ Some (record { payload = unveiled scheme n block; dirty = false }) = sym held ∙ ap (λ (k : ℕ). new.lines k) here ∙ step.lines.here in
+                  let o : line ≡ record { payload = unveiled scheme n block; dirty = false } = cc in
+                  let e : true ≡ false = sym is ∙ ap (λ (l : Line). l.dirty) o in cc
+              | inr apart ↦ moves.due m line (sym (step.lines.other m apart) ∙ held) is
+            ];
       };
       deceived = λ deceived. more (moved.deceived deceived);
     }
@@ -314,6 +409,17 @@ moved-both scheme pinned old middle new first second one two =
         stays = λ n leaf held now.
             let mid : is_some (middle.lines n) ≡ true = elim (b.came n now) [ inl mid ↦ mid | inr came ↦ a.kept n came.0 held ] in
             b.stays n leaf mid now ∙ a.stays n leaf held mid;
+        told = All-append (TellsLine scheme old.lines) a.events b.events a.told
+            (All-weaker (Contains b.events) (TellsLine scheme old.lines)
+            (λ (event : Event) (inside : Contains b.events event). told-before scheme pinned old middle new first event a
+            (All-contains (IsMove pinned middle new) b.events event b.each inside) (All-contains (TellsLine scheme middle.lines) b.events event b.told inside))
+            b.events (All-contains_itself b.events));
+        waiting = λ n line held is now.
+            let mid : is_some (middle.lines n) ≡ true =
+            elim (b.came n now) [ inl mid ↦ mid | inr came ↦ a.kept n came.0 (ap (λ (o : Option Line). is_some o) held) ] in
+            let between = a.waiting n line held is mid in
+            b.waiting n between.0 between.1 between.2 now;
+        due = λ n line held is. due-before scheme old.lines middle.lines a.due n (b.due n line held is);
       };
       deceived = λ deceived. two.deceived (one.deceived deceived);
     }

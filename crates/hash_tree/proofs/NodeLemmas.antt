@@ -197,7 +197,7 @@ module _ (layout : Layout) (veiled : ℕ → ℕ → List ℕ → List ℕ) (law
   node-written : BlocksEntered layout (scheme_of layout veiled) (λ m. m ≡ n) p3 p3 (writes_block n ∷ []) t3 t4
   unfolding scheme_of
   node-written = blocks-write layout (scheme_of layout veiled) p3 n (digests-put d1 d2 d3) digest t3 t4 back (λ above. parent-less n above) laid
-      (λ leaf _. absurd (omega (arith, leaf, node))) (λ yes'. let at = static-at layout n yes' in absurd (omega (arith, at.from, node)))
+      (λ leaf _. absurd (omega (arith, leaf, node))) (λ leaf _. absurd (omega (arith, leaf, node))) (λ yes'. let at = static-at layout n yes' in absurd (omega (arith, at.from, node)))
 
   with-node : BlocksEntered layout (scheme_of layout veiled) (λ m. Children m ⊎ (m ≡ n)) p0 p3 (moves_below layout (suc levels) n) t0 t4
   unfolding scheme_of

@@ -44,6 +44,10 @@ nodes-some layout = by (height_of layout) refl
 pub leaf-no_node : (layout : Layout) (position : ℕ) → nodes_of layout ≤ leaf_of layout position
 leaf-no_node layout position = omega arith
 
+-- a leaf is a block of the tree
+pub leaf-inside : (layout : Layout) (position : ℕ) → position < positions_of layout → leaf_of layout position < tree_blocks layout
+leaf-inside layout position below = omega (arith, below)
+
 -- ---- what the scheme keeps
 
 -- what a veil keeps, where its nodes are those of the layout

@@ -1,5 +1,6 @@
 -- Promise: what a tree does where its program is entered: which blocks it reads and writes, in which order, and what it holds then.
 use Rattle.std.specs.Prelude.{◌≡◌, ℕ, zero, suc, ◌+◌, ◌-◌, ◌*◌, ◌<◌, ◌≤◌, Bool, true, false, ◌⊎◌, ◌&&◌, nat_le, nat_lt, List, [], ◌∷◌, ◌++◌, length, map, filter_map, replicate, slice_get, Some, if◌then◌else◌}
+use Rattle.std.specs.List.{All}
 use Rattle.aegis_num.specs.declared.storage.Block.{Block}
 use Rattle.aegis_num.specs.declared.storage.Place.TheVariants.{Tree}
 use Rattle.regions.specs.declared.addresses.TheConstants.{BLOCK_BYTES}
@@ -52,6 +53,11 @@ moves_below layout (suc levels) n =
 abbrev pub entry_moves : Layout → List BlockMove
 entry_moves layout = moves_below layout (height_of layout) 0
 
+-- where a data block is written that is not static, zeros are written, with the veil of the stamp over them
+pub record WritesZeros (layout : Layout) (scheme : Scheme) (event : Event) : Type 0 where
+  pub zeros : (n : ℕ) (block : Block) → event ≡ BlockWrite (Tree n) block → scheme.nodes ≤ n → is_static layout n ≡ false
+      → block.payload ≡ scheme.veiled n block.stamp (replicate BLOCK_BYTES 0)
+
 -- ---- and what is there then
 
 -- what was done where a program was entered, and what the tree holds then
@@ -59,6 +65,7 @@ pub record Entered (layout : Layout) (scheme : Scheme) (old new : State) (answer
   pub events : List Event
   pub appended : new.trace ≡ old.trace ++ events
   pub order : map move_of events ≡ entry_moves layout
+  pub zeros_written : All (WritesZeros layout scheme) events
   -- the payloads that were read are those of the program whose digest is the answer
   pub reads : length (filter_map payload_read events) ≡ static_blocks layout
   pub answer_is : answer ≡ program_digest (filter_map payload_read events)
@@ -104,6 +111,7 @@ pub record BlocksEntered (layout : Layout) (scheme : Scheme) (These : ℕ → Ty
   pub events : List Event
   pub appended : new ≡ old ++ events
   pub order : map move_of events ≡ moves
+  pub zeros_written : All (WritesZeros layout scheme) events
   pub added : program.added ≡ old_program.added + length (filter_map payload_read events)
   pub taken : (payloads : List (List ℕ)) → HasTaken old_program payloads → HasTaken program (payloads ++ filter_map payload_read events)
   -- of other blocks nothing changes

@@ -7,14 +7,10 @@ use Rattle.off_chip.specs.declared.event.Event.{Event}
 use Rattle.off_chip.specs.declared.event.Event.TheVariants.{BlockWrite}
 use Rattle.line_cache.specs.declared.lines.Line.{Line}
 use Rattle.hash_tree.specs.CachedLines.{Held}
+use Rattle.hash_tree.specs.DueLines.{IsDue}
 use Rattle.hash_tree.specs.Schemes.{Scheme}
 use Rattle.hash_tree.specs.Standing.{State, Stands, SameContents}
 use Rattle.hash_tree.specs.TreeSteps.{WrittenBack}
-
--- the line of a block has to be written: it is dirty, or that of a child has to be
-pub data IsDue (scheme : Scheme) (lines : Held) : ℕ → Type 0 where
-  dirty : (n : ℕ) (line : Line) → lines n ≡ Some line → line.dirty ≡ true → IsDue scheme lines n
-  above : (child : ℕ) → 0 < child → IsDue scheme lines child → IsDue scheme lines (scheme.digests.parent child)
 
 -- an event writes a block whose line has to be written
 pub record WritesDue (scheme : Scheme) (lines : Held) (event : Event) : Type 0 where

@@ -1,5 +1,6 @@
 pub mod AsWritten
 pub mod CachedLines
+pub mod DueLines
 pub mod Entering
 pub mod Flushes
 pub mod HashTrees

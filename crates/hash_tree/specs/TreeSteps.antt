@@ -16,6 +16,7 @@ use Rattle.off_chip.specs.HonestMemory.{IsWhole}
 use Rattle.line_cache.specs.declared.lines.Line.{Line}
 use Rattle.line_cache.specs.LineMaps.{LineMap, payload_at, with_payload}
 use Rattle.hash_tree.specs.CachedLines.{Held}
+use Rattle.hash_tree.specs.DueLines.{IsDue}
 use Rattle.hash_tree.specs.HashTrees.{digest_bytes, state_of}
 use Rattle.hash_tree.specs.Schemes.{Scheme, unveiled}
 use Rattle.hash_tree.specs.Standing.{State, IsPadded, IsDeceived, IsKeptDigest, Stands, KeepsContents}
@@ -84,6 +85,15 @@ pub data IsRemoval (n : ℕ) (event : Event) : Type 0 where
   write : (block : Block) → event ≡ BlockWrite (Tree n) block → IsRemoval n event
   dropped : event ≡ Note (Drop (Tree n)) → IsRemoval n event
 
+-- what an event of a load tells of the lines before it. Where a block is written, its line had to be; and where that block is no node, the
+-- payload of its line was written, with the veil of the stamp over it. Where a line is dropped, it was clean
+pub data TellsLine (scheme : Scheme) (lines : Held) (event : Event) : Type 0 where
+  was_read : (n : ℕ) (block : Block) → event ≡ BlockRead (Tree n) block → TellsLine scheme lines event
+  node_written : (n : ℕ) (block : Block) → event ≡ BlockWrite (Tree n) block → n < scheme.nodes → IsDue scheme lines n → TellsLine scheme lines event
+  leaf_written : (n : ℕ) (block : Block) (line : Line) → event ≡ BlockWrite (Tree n) block → scheme.nodes ≤ n → lines n ≡ Some line → line.dirty ≡ true
+      → block.payload ≡ scheme.veiled n block.stamp line.payload → TellsLine scheme lines event
+  line_dropped : (n : ℕ) (line : Line) → event ≡ Note (Drop (Tree n)) → lines n ≡ Some line → line.dirty ≡ false → TellsLine scheme lines event
+
 -- the line of a block left, by one event. No other line left or came, and those of no nodes stay
 pub record Evicts (scheme : Scheme) (old new : State) (n : ℕ) : Type 0 where
   pub event : Event
@@ -93,6 +103,10 @@ pub record Evicts (scheme : Scheme) (old new : State) (n : ℕ) : Type 0 where
   pub gone : new.lines n ≡ None
   pub others : (m : ℕ) → m ≢ n → is_some (new.lines m) ≡ is_some (old.lines m)
   pub leaves : (m : ℕ) → scheme.nodes ≤ m → m ≢ n → new.lines m ≡ old.lines m
+  pub told : TellsLine scheme old.lines event
+  -- each line that stays is dirty where it was, and else only where it has to be written
+  pub waiting : (m : ℕ) (line : Line) → m ≢ n → old.lines m ≡ Some line → line.dirty ≡ true → (now : Line) × (new.lines m ≡ Some now) × (now.dirty ≡ true)
+  pub due : (m : ℕ) (line : Line) → new.lines m ≡ Some line → line.dirty ≡ true → IsDue scheme old.lines m
 
 -- the tree stands on, and its contents are kept
 pub record Evicted (scheme : Scheme) (old new : State) (n : ℕ) : Type 0 where
@@ -127,6 +141,11 @@ pub record Moves (scheme : Scheme) (pinned : List ℕ) (old new : State) (reads 
   pub came : (n : ℕ) → is_some (new.lines n) ≡ true → (is_some (old.lines n) ≡ true) ⊎ (Contains pinned n × (list_any (λ m. m == n) reads ≡ true))
   -- each line that stays is as before, where its block is no node
   pub stays : (n : ℕ) → scheme.nodes ≤ n → is_some (old.lines n) ≡ true → is_some (new.lines n) ≡ true → new.lines n ≡ old.lines n
+  -- which lines are written and which are dropped, and what is written
+  pub told : All (TellsLine scheme old.lines) events
+  -- each line that stays is dirty where it was, and else only where it had to be written
+  pub waiting : (n : ℕ) (line : Line) → old.lines n ≡ Some line → line.dirty ≡ true → is_some (new.lines n) ≡ true → (now : Line) × (new.lines n ≡ Some now) × (now.dirty ≡ true)
+  pub due : (n : ℕ) (line : Line) → new.lines n ≡ Some line → line.dirty ≡ true → IsDue scheme old.lines n
 
 -- the tree stands on after a load or a part of it, with its contents
 pub record Moved (scheme : Scheme) (pinned : List ℕ) (old new : State) (reads : List ℕ) : Type 0 where

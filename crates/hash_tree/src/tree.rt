@@ -51,6 +51,8 @@ pub struct Tree<L: Lines, V: Veil> {
     lines: L,
     veil: V,
     layout: Layout,
+    // The first block of the lowest level.
+    leaves_from: u32,
     root: [u8; 20],
 }
 
@@ -68,7 +70,7 @@ impl<L: Lines, V: Veil> Model for Tree<L, V> {
       root = t.root;
     } };
 
-    ghost invariant = { λ t. V.nodes t.veil ≡ nodes_of t.layout };
+    ghost invariant = { λ t. (V.nodes t.veil ≡ nodes_of t.layout) × (t.leaves_from ≡ nodes_of t.layout) };
 }
 
 impl<L: Lines, V: Veil> Tree<L, V> {
@@ -80,12 +82,23 @@ impl<L: Lines, V: Veil> Tree<L, V> {
         ensures veil { result.veil ≡ veil }
         ensures layout { result.layout ≡ layout }
     {
+        let leaves_from = leaf(&layout, 0);
         Tree {
             lines,
             veil,
             layout,
+            leaves_from,
             root: [0; 20],
         }
+    }
+
+    // The block at a position of the lowest level.
+    fn leaf_at(&self, position: u32) -> u32
+        requires { position < positions_of self.now.layout }
+        ensures value { result ≡ leaf_of self.now.layout position }
+        ensures inside { result < tree_blocks self.now.layout }
+    {
+        self.leaves_from + position
     }
 
     /// Enters the program: reads each static block once, in the order of their numbers, and writes each block of the tree, each
@@ -289,7 +302,7 @@ impl<L: Lines, V: Veil> Tree<L, V> {
         ensures fit { StampsFit stamps.new (history (O.trace bus.new)) }
         ensures same { O.same_memory bus.old bus.new }
     {
-        let block = leaf(&self.layout, position);
+        let block = self.leaf_at(position);
         if self.lines.holds(block) {
             self.lines.touch(block);
             return Ok(());
@@ -307,7 +320,7 @@ impl<L: Lines, V: Veil> Tree<L, V> {
         ensures value { payload_at (L.lines self.now.lines) (leaf_of self.now.layout position)
             ≡ Some result.now }
     {
-        self.lines.payload(leaf(&self.layout, position))
+        self.lines.payload(self.leaf_at(position))
     }
 
     /// The payload of a data block that has a line, to be changed. The line counts as changed, and what stands there when the
@@ -321,7 +334,7 @@ impl<L: Lines, V: Veil> Tree<L, V> {
         ensures value { payload_at (L.lines self.old.lines) (leaf_of self.old.layout position)
             ≡ Some result.now }
     {
-        let block = leaf(&self.layout, position);
+        let block = self.leaf_at(position);
         self.lines.line_mut(block)
     }
 
@@ -679,8 +692,8 @@ fn with_path(pins: &Pins, block: u32, depth: u32) -> Pins
     pinned
 }
 
-// Pins a path, from the root down.
-fn pin_path(pins: &mut Pins, block: u32, depth: u32)
+/// Pins a path, from the root down to a block that stands so many steps below it. At most 18 blocks are pinned then.
+pub fn pin_path(pins: &mut Pins, block: u32, depth: u32)
     requires depth { IsAtDepth 3 depth block }
     requires few { length pins.old.blocks.items + depth + 1 ≤ 18 }
     ensures blocks { pins.new.blocks.items ≡ pins.old.blocks.items ++ path_in 3 depth block }

@@ -2,6 +2,8 @@
 #![tactic(auto)]
 
 #[cfg(test)]
+mod entered_memory;
+#[cfg(test)]
 mod lines;
 #[cfg(test)]
 mod pads;

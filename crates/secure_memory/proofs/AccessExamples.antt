@@ -1,6 +1,6 @@
 -- Examples of the words of blocks, of what reads bring onto the chip, and of what moves blocks.
-use Rattle.std.proofs.Common.{◌≡◌, ℕ, ◌+◌, true, false, List, [], ◌∷◌, lit≤, refl}
-use Rattle.std.specs.Prelude.{replicate}
+use Rattle.std.proofs.Common.{◌≡◌, ℕ, ◌+◌, true, false, List, [], ◌∷◌, Some, lit≤, refl, arith}
+use Rattle.std.specs.Prelude.{Result, Err, replicate}
 use Rattle.aegis_num.specs.declared.storage.Block.{Block}
 use Rattle.aegis_num.specs.declared.storage.Place.TheVariants.{Log, Tree}
 use Rattle.regions.specs.declared.layout.Layout.{Layout}
@@ -9,7 +9,11 @@ use Rattle.off_chip.specs.declared.event.Event.TheVariants.{BlockRead, BlockWrit
 use Rattle.off_chip.specs.declared.event.Mark.TheVariants.{CheckPassed, Drop, Retire}
 use Rattle.off_chip.specs.declared.event.Who.TheVariants.{Secure, Untrusted}
 use Rattle.secure_memory.specs.BlockWords.{after_reads, byte_at, on_chip, place_at, with_byte_at, with_word_at, word_at}
-use Rattle.secure_memory.specs.MemoryAccesses.{changed, is_block_move, pins_after}
+use Rattle.orbis_core.specs.declared.memory.Stop.{Stop}
+use Rattle.orbis_core.specs.declared.memory.Stop.TheVariants.{Refused}
+use Rattle.orbis_core.specs.declared.memory.Why.TheVariants.{Misaligned}
+use Rattle.secure_memory.specs.MemorySights.{Sight}
+use Rattle.secure_memory.specs.MemoryAccesses.{IsStopped, SameParts, Unless, changed, is_block_move, pins_after}
 
 -- 64 bytes: 0, 1, 2, 3, then 4, 5, 6, 7, and zeros
 payload : List ℕ
@@ -101,6 +105,11 @@ log-taken : after_reads layout (λ n stamp bytes. bytes) (BlockRead (Log 4) (rec
 unfolding height_of payload
 log-taken = refl
 
+-- but none after the last one
+log_beyond-kept : after_reads layout (λ n stamp bytes. bytes) (BlockRead (Log 5) (record { payload = payload; stamp = 1 }) ∷ []) (λ at. 9) 0x20000144 ≡ 9
+unfolding height_of payload
+log_beyond-kept = refl
+
 -- of two reads the later one counts, and a write brings nothing onto the chip
 later-taken : after_reads layout (λ n stamp bytes. bytes)
     (BlockRead (Log 4) (record { payload = replicate 64 1; stamp = 1 }) ∷ BlockRead (Log 4) (record { payload = payload; stamp = 1 }) ∷ []) (λ at. 9) 0x20000104 ≡ 0x04050607
@@ -125,3 +134,21 @@ code-pinned = refl
 
 open-unpinned : pins_after layout 0x2000 ≡ []
 open-unpinned = refl
+
+log-unpinned : pins_after layout 0x20000104 ≡ []
+log-unpinned = refl
+
+-- no access to an open word is stopped
+open-goes_on : {L : Type 0} (reason : Stop) (old new : Sight L) → IsStopped 0xfffc reason old new → ⊥
+open-goes_on reason old new stopped = omega (arith, stopped.closed)
+
+-- an access that is refused leaves the memory as it was, and one that is not refused gives no such answer
+refused-still : {L T : Type 0} (answer : Result T Stop) (old new : Sight L) (P : Type 0) → Unless (Some Misaligned) answer old new P → new ≡ old
+refused-still answer old new P does = does.1
+
+refused-why : {L T : Type 0} (answer : Result T Stop) (old new : Sight L) (P : Type 0) → Unless (Some Misaligned) answer old new P → answer ≡ Err (Refused Misaligned)
+refused-why answer old new P does = does.0
+
+-- what an access keeps
+keys-kept : {L : Type 0} (old new : Sight L) → SameParts old new → (new.log.key ≡ old.log.key) × (new.pinned ≡ old.pinned) × (new.told ≡ old.told) × (new.mode ≡ old.mode)
+keys-kept old new same = (same.key, same.pinned, same.told, same.mode)

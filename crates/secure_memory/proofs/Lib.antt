@@ -12,5 +12,7 @@ pub mod StoreActs
 pub mod OpenActs
 pub mod FetchLemmas
 pub mod IdealLemmas
+pub mod PrivateLemmas
 mod AccessExamples
 mod PadExamples
+mod PrivateExamples

@@ -8,3 +8,4 @@ pub mod MemorySights
 pub mod MemoryAccesses
 pub mod AccessesLeft
 pub mod IdealAccesses
+pub mod PrivateWrites

@@ -50,6 +50,8 @@ impl<O: OffChip, L: Lines> SecureMemory<'_, O, L> {
             (sight_of L.lines O.trace O.room O.layout self.old)
             (sight_of L.lines O.trace O.room O.layout self.new) }
         ensures same { O.same_memory self.old.lent.now self.new.lent.now }
+        ensures total { length (O.trace self.new.lent.now) + O.room self.new.lent.now
+            ≡ length (O.trace self.old.lent.now) + O.room self.old.lent.now }
         ensures same_reference { self.new.lent.ghost_name ≡ self.old.lent.ghost_name }
     {
         let position = (at - TREE_START) / BLOCK_BYTES;
@@ -73,6 +75,8 @@ impl<O: OffChip, L: Lines> SecureMemory<'_, O, L> {
             (sight_of L.lines O.trace O.room O.layout self.old)
             (sight_of L.lines O.trace O.room O.layout self.new) }
         ensures same { O.same_memory self.old.lent.now self.new.lent.now }
+        ensures total { length (O.trace self.new.lent.now) + O.room self.new.lent.now
+            ≡ length (O.trace self.old.lent.now) + O.room self.old.lent.now }
         ensures same_reference { self.new.lent.ghost_name ≡ self.old.lent.ghost_name }
     {
         let block = (at - LOG_START) / BLOCK_BYTES;
@@ -94,6 +98,8 @@ impl<O: OffChip, L: Lines> SecureMemory<'_, O, L> {
             (sight_of L.lines O.trace O.room O.layout self.old)
             (sight_of L.lines O.trace O.room O.layout self.new) }
         ensures same { O.same_memory self.old.lent.now self.new.lent.now }
+        ensures total { length (O.trace self.new.lent.now) + O.room self.new.lent.now
+            ≡ length (O.trace self.old.lent.now) + O.room self.old.lent.now }
         ensures same_reference { self.new.lent.ghost_name ≡ self.old.lent.ghost_name }
     {
         if at < LOG_START {
@@ -185,6 +191,8 @@ impl<O: OffChip, L: Lines> SecureMemory<'_, O, L> {
             (sight_of L.lines O.trace O.room O.layout self.old)
             (sight_of L.lines O.trace O.room O.layout self.new) }
         ensures same { O.same_memory self.old.lent.now self.new.lent.now }
+        ensures total { length (O.trace self.new.lent.now) + O.room self.new.lent.now
+            ≡ length (O.trace self.old.lent.now) + O.room self.old.lent.now }
         ensures same_reference { self.new.lent.ghost_name ≡ self.old.lent.ghost_name }
     {
         if at < OPEN_END {
@@ -203,6 +211,8 @@ impl<O: OffChip, L: Lines> SecureMemory<'_, O, L> {
             (sight_of L.lines O.trace O.room O.layout self.old)
             (sight_of L.lines O.trace O.room O.layout self.new) }
         ensures same { O.same_memory self.old.lent.now self.new.lent.now }
+        ensures total { length (O.trace self.new.lent.now) + O.room self.new.lent.now
+            ≡ length (O.trace self.old.lent.now) + O.room self.old.lent.now }
         ensures same_reference { self.new.lent.ghost_name ≡ self.old.lent.ghost_name }
     {
         if at < OPEN_END {
@@ -224,6 +234,8 @@ impl<O: OffChip, L: Lines> SecureMemory<'_, O, L> {
             (sight_of L.lines O.trace O.room O.layout self.old)
             (sight_of L.lines O.trace O.room O.layout self.new) }
         ensures same { O.same_memory self.old.lent.now self.new.lent.now }
+        ensures total { length (O.trace self.new.lent.now) + O.room self.new.lent.now
+            ≡ length (O.trace self.old.lent.now) + O.room self.old.lent.now }
         ensures same_reference { self.new.lent.ghost_name ≡ self.old.lent.ghost_name }
     {
         if at < OPEN_END {
@@ -247,6 +259,8 @@ impl<O: OffChip, L: Lines> SecureMemory<'_, O, L> {
             (sight_of L.lines O.trace O.room O.layout self.old)
             (sight_of L.lines O.trace O.room O.layout self.new) }
         ensures same { O.same_memory self.old.lent.now self.new.lent.now }
+        ensures total { length (O.trace self.new.lent.now) + O.room self.new.lent.now
+            ≡ length (O.trace self.old.lent.now) + O.room self.old.lent.now }
         ensures same_reference { self.new.lent.ghost_name ≡ self.old.lent.ghost_name }
     {
         if at < OPEN_END {

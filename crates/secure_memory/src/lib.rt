@@ -8,9 +8,6 @@ mod pads;
 mod path;
 mod words;
 
-pub use laws::{accesses_are_ideal, outside_events_keep};
+pub use laws::{accesses_are_ideal, outside_events_keep, private_writes_are_padded};
 pub use memory::{Parts, SecureMemory};
 pub use pads::PrivatePad;
-
-#[cfg(test)]
-mod tests;

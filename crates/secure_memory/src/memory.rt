@@ -6,17 +6,20 @@ ghost use mir.Syntax.{named};
 ghost use Rattle.regions.specs.contracts.modes.ModeUnit.{the_row as mode_row};
 ghost use Rattle.secure_memory.specs.contracts.memory.SecureMemory.{the_row};
 ghost use Rattle.regions.specs.declared.rights.Mode.TheVariants.{Std, Te};
+ghost use Rattle.line_cache.specs.LineMaps.{payload_at};
 ghost use Rattle.off_chip.specs.BusCalls.{TellsOnly};
 ghost use Rattle.off_chip.specs.Epochs.{IsQuiet};
 ghost use Rattle.off_chip.specs.Histories.{History, history};
 ghost use Rattle.off_chip.specs.OffChipBytes.{static_blocks};
 ghost use Rattle.regions.specs.Tree.{tree_blocks};
+ghost use Rattle.hash_tree.specs.TreeParts.{SameTree};
 ghost use Rattle.stamp_log.specs.LogEvents.{RunsCheck, zero_payload};
 ghost use Rattle.stamp_log.specs.LogState.{value_under};
 ghost use Rattle.stamp_log.specs.OfflineCheck.{IsCause, PassedFaithful};
 ghost use Rattle.stamp_log.specs.StandsOn.{IsNew, StandsOn, contents_of};
 ghost use Rattle.secure_memory.specs.MemoryEntry.{EntersMemory};
 ghost use Rattle.secure_memory.specs.MemoryStands.{IsOfLayout, MemoryStands};
+ghost use Rattle.secure_memory.specs.PrivateWrites.{PadsWrites};
 
 use crate::pads::PrivatePad;
 use aegis_num::Stamps;
@@ -167,16 +170,26 @@ impl<'a, O: OffChip, L: Lines> SecureMemory<'a, O, L> {
             (L.lines self.new.tree.lines) self.new.log self.new.stamps (O.trace self.new.lent.now) }
         ensures does { EntersMemory self.old.tree self.new.tree (L.lines self.new.tree.lines)
             (O.trace self.new.lent.now) result }
+
+        // Zeros are written of each private block, with their pad.
+        ensures private { PadsWrites self.old.tree.veil (λ n. Some zero_payload) []
+            (O.trace self.new.lent.now) }
         ensures count { length (O.trace self.new.lent.now)
             ≡ 1 + (static_blocks self.old.layout + tree_blocks self.old.layout) + self.old.layout.log }
         ensures room { O.room self.old.lent.now ≤ O.room self.new.lent.now
             + (1 + (static_blocks self.old.layout + tree_blocks self.old.layout) + self.old.layout.log) }
         ensures log { (n : ℕ) → n < self.old.layout.log
             → contents_of self.new.log (history (O.trace self.new.lent.now)) n ≡ Some zero_payload }
+        ensures lines { L.lines self.new.tree.lines ≡ empty }
+        ensures tree { SameTree self.old.tree self.new.tree }
+        ensures log_lines { self.new.log.lines ≡ self.old.log.lines }
+        ensures key { self.new.log.key ≡ self.old.log.key }
         ensures modes { self.new.mode_unit ≡ self.old.mode_unit }
         ensures layout { self.new.layout ≡ self.old.layout }
         ensures pins { self.new.pins ≡ self.old.pins }
         ensures same { O.same_memory self.old.lent.now self.new.lent.now }
+        ensures total { length (O.trace self.new.lent.now) + O.room self.new.lent.now
+            ≡ length (O.trace self.old.lent.now) + O.room self.old.lent.now }
         ensures same_reference { self.new.lent.ghost_name ≡ self.old.lent.ghost_name }
     {
         self.lent.note(Mark::Enter);
@@ -231,15 +244,20 @@ impl<'a, O: OffChip, L: Lines> SecureMemory<'a, O, L> {
         ensures events { RunsCheck (value_under self.old.log.key) self.old.log.blocks result
             (O.trace self.old.lent.now) (O.trace self.new.lent.now)
             self.old.log.lines self.new.log.lines }
+        ensures private { PadsWrites self.old.tree.veil (payload_at (L.lines self.old.tree.lines))
+            (O.trace self.old.lent.now) (O.trace self.new.lent.now) }
         ensures most { length (O.trace self.new.lent.now)
             ≤ length (O.trace self.old.lent.now) + (self.old.log.blocks + 34) }
         ensures room { O.room self.old.lent.now
             ≤ O.room self.new.lent.now + (self.old.log.blocks + 34) }
         ensures tree { self.new.tree ≡ self.old.tree }
+        ensures key { self.new.log.key ≡ self.old.log.key }
         ensures modes { self.new.mode_unit ≡ self.old.mode_unit }
         ensures layout { self.new.layout ≡ self.old.layout }
         ensures pins { self.new.pins ≡ self.old.pins }
         ensures same { O.same_memory self.old.lent.now self.new.lent.now }
+        ensures total { length (O.trace self.new.lent.now) + O.room self.new.lent.now
+            ≡ length (O.trace self.old.lent.now) + O.room self.old.lent.now }
         ensures same_reference { self.new.lent.ghost_name ≡ self.old.lent.ghost_name }
     {
         self.log.check(&mut *self.lent, &mut self.stamps)

@@ -9,7 +9,7 @@ use orbis_core::{Memory, Stop};
 use regions::Access;
 
 impl<O: OffChip, L: Lines> Memory for SecureMemory<'_, O, L> {
-    ghost use Rattle.std.specs.Prelude.{◌≡◌};
+    ghost use Rattle.std.specs.Prelude.{◌≡◌, ◌+◌, length};
     ghost use Rattle.secure_memory.specs.MemorySights.{HasLeft, sight_of};
     ghost use Rattle.secure_memory.specs.MemoryAccesses.{secure_accesses};
     ghost use Rattle.secure_memory.specs.AccessesLeft.{fewer, secure_leaves};
@@ -17,7 +17,8 @@ impl<O: OffChip, L: Lines> Memory for SecureMemory<'_, O, L> {
     ghost has_left = { λ memory n. HasLeft (sight_of L.lines O.trace O.room O.layout memory) n };
 
     ghost accesses = { secure_accesses (λ (memory : Self). sight_of L.lines O.trace O.room O.layout memory)
-        (λ (old new : Self). (new.lent.ghost_name ≡ old.lent.ghost_name) × O.same_memory old.lent.now new.lent.now) };
+        (λ (old new : Self). (new.lent.ghost_name ≡ old.lent.ghost_name) × O.same_memory old.lent.now new.lent.now
+        × (length (O.trace new.lent.now) + O.room new.lent.now ≡ length (O.trace old.lent.now) + O.room old.lent.now)) };
 
     fn fetch(&mut self, at: u32) -> Result<u32, Stop> {
         self.test_word(at, Access::Fetch)?;

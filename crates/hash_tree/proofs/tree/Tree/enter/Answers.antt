@@ -35,7 +35,7 @@ finish-requires g c =
 pub returns-clause-stands : goal.returns-clause-stands
 returns-clause-stands g c =
     let v = c.self.inside.veil in
-    let lawful = keeps-veil c.self.inside.layout (g.V.Veil.veiled v) (g.V.Veil.nodes v) c.self.invariant (g.met.V.Veil.own_inverse v) (g.met.V.Veil.keeps_length v) (g.met.V.Veil.leaves_nodes v) in
+    let lawful = keeps-veil c.self.inside.layout (g.V.Veil.veiled v) (g.V.Veil.nodes v) c.self.invariant.0 (g.met.V.Veil.own_inverse v) (g.met.V.Veil.keeps_length v) (g.met.V.Veil.leaves_nodes v) in
     let none = rw (← c.self.view_is) at c.requires.fresh in
     let does = rw (← c.self.view_is) at c.enter_below-self-inside.ensures.does in
     let entered = at-height _ _ _ _ _ _ _ _ c.height-levels.ensures.value does in
@@ -45,7 +45,7 @@ pub returns-clause-does : goal.returns-clause-does
 returns-clause-does g c =
     let all = whole c.self.inside.layout c.height-levels.result c.height-levels.ensures.value in
     let v = c.self.inside.veil in
-    let lawful = keeps-veil c.self.inside.layout (g.V.Veil.veiled v) (g.V.Veil.nodes v) c.self.invariant (g.met.V.Veil.own_inverse v) (g.met.V.Veil.keeps_length v) (g.met.V.Veil.leaves_nodes v) in
+    let lawful = keeps-veil c.self.inside.layout (g.V.Veil.veiled v) (g.V.Veil.nodes v) c.self.invariant.0 (g.met.V.Veil.own_inverse v) (g.met.V.Veil.keeps_length v) (g.met.V.Veil.leaves_nodes v) in
     let none = rw (← c.self.view_is) at c.requires.fresh in
     let does = rw (← c.self.view_is) at c.enter_below-self-inside.ensures.does in
     let entered = at-height _ _ _ _ _ _ _ _ c.height-levels.ensures.value does in
@@ -55,7 +55,7 @@ returns-clause-does g c =
 pub returns-clause-count : goal.returns-clause-count
 returns-clause-count g c =
     let v = c.self.inside.veil in
-    let lawful = keeps-veil c.self.inside.layout (g.V.Veil.veiled v) (g.V.Veil.nodes v) c.self.invariant (g.met.V.Veil.own_inverse v) (g.met.V.Veil.keeps_length v) (g.met.V.Veil.leaves_nodes v) in
+    let lawful = keeps-veil c.self.inside.layout (g.V.Veil.veiled v) (g.V.Veil.nodes v) c.self.invariant.0 (g.met.V.Veil.own_inverse v) (g.met.V.Veil.keeps_length v) (g.met.V.Veil.leaves_nodes v) in
     let none = rw (← c.self.view_is) at c.requires.fresh in
     let does = rw (← c.self.view_is) at c.enter_below-self-inside.ensures.does in
     let entered = at-height _ _ _ _ _ _ _ _ c.height-levels.ensures.value does in

@@ -13,16 +13,17 @@ note-requires-clause-inside g c = held-inside _ _ _ _ _ _ _ c.requires.told c.re
 pub returns-then-dirty-clause-does : goal.returns-then-dirty-clause-does
 returns-then-dirty-clause-does g c =
     let v = c.self.inside.veil in
-    let lawful = keeps-veil c.self.inside.layout (g.V.Veil.veiled v) (g.V.Veil.nodes v) c.self.invariant (g.met.V.Veil.own_inverse v) (g.met.V.Veil.keeps_length v) (g.met.V.Veil.leaves_nodes v) in
+    let lawful = keeps-veil c.self.inside.layout (g.V.Veil.veiled v) (g.V.Veil.nodes v) c.self.invariant.0 (g.met.V.Veil.own_inverse v) (g.met.V.Veil.keeps_length v) (g.met.V.Veil.leaves_nodes v) in
     let stands = rw (← c.self.view_is) at c.requires.stands in
     let back = rw (← c.self.view_is) at c.write_back.ensures.step in
     let below = stamps-below _ _ _ c.requires.fit c.requires.limit c.requires.has_room in
     let fits : c.write_back.new.stamps < 2 ^ 64 = omega (arith, below, c.write_back.ensures.stamp) in
+    let was = c.if-dirty.ensures.value in
     let same = c.remove.ensures.lines in
     let lines = ap (λ (p : TreeParts g.row.L.Denot g.row.V.Denot). g.L.Lines.lines p.lines) c.self-then-dirty.view_is in
     let root = ap (λ (p : TreeParts g.row.L.Denot g.row.V.Denot). p.root) c.self-then-dirty.view_is in
     let back_here = rw (← c.self-then-dirty.view_is) at back in
-    rw (← c.self.view_is) (evicted-written _ lawful _ _ _ _ _ _ _ _ _ _ fits stands back_here same refl)
+    rw (← c.self.view_is) (evicted-written _ lawful _ _ _ _ _ _ _ _ _ _ fits was stands back_here same refl)
 
 pub returns-then-dirty-clause-fit : goal.returns-then-dirty-clause-fit
 returns-then-dirty-clause-fit g c = back-fits _ _ _ _ _ _ c.write_back.ensures.step c.requires.fit c.write_back.ensures.stamp
@@ -36,7 +37,7 @@ returns-then-dirty-clause-count g c =
 pub returns-else-dirty-clause-does : goal.returns-else-dirty-clause-does
 returns-else-dirty-clause-does g c =
     let v = c.self.inside.veil in
-    let lawful = keeps-veil c.self.inside.layout (g.V.Veil.veiled v) (g.V.Veil.nodes v) c.self.invariant (g.met.V.Veil.own_inverse v) (g.met.V.Veil.keeps_length v) (g.met.V.Veil.leaves_nodes v) in
+    let lawful = keeps-veil c.self.inside.layout (g.V.Veil.veiled v) (g.V.Veil.nodes v) c.self.invariant.0 (g.met.V.Veil.own_inverse v) (g.met.V.Veil.keeps_length v) (g.met.V.Veil.leaves_nodes v) in
     let stands = rw (← c.self.view_is) at c.requires.stands in
     rw (← c.self.view_is) (evicted-dropped _ lawful _ _ _ _ _ _ _ stands c.if-dirty.ensures.value c.note.ensures.event.trace c.remove-else-dirty.ensures.lines refl)
 

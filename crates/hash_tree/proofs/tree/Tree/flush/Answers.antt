@@ -23,7 +23,7 @@ pub loop-below-preserved : goal.loop-below-preserved
 loop-below-preserved g c =
     let inv = c.loop-below.invariant in
     let v = c.self.inside.veil in
-    let lawful = keeps-veil c.self.inside.layout (g.V.Veil.veiled v) (g.V.Veil.nodes v) c.self.invariant (g.met.V.Veil.own_inverse v) (g.met.V.Veil.keeps_length v) (g.met.V.Veil.leaves_nodes v) in
+    let lawful = keeps-veil c.self.inside.layout (g.V.Veil.veiled v) (g.V.Veil.nodes v) c.self.invariant.0 (g.met.V.Veil.own_inverse v) (g.met.V.Veil.keeps_length v) (g.met.V.Veil.leaves_nodes v) in
     let next : c.loop-below.below ≡ suc (c.loop-below.below - 1) = omega (arith, c.loop-below-test.true) in
     let step = rw (inv.tree.layout, inv.tree.veil) at c.flush_line.ensures.step in
     record {

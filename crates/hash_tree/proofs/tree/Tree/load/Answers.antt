@@ -10,15 +10,16 @@ use Rattle.hash_tree.proofs.tree.Tree.load.Goals as goal
 
 pub load_path-requires-clause-pinned : goal.load_path-requires-clause-pinned
 load_path-requires-clause-pinned g c =
-    subst (λ (xs : List ℕ). Contains xs c.leaf-block.result) (sym c.with_path-pinned.ensures.blocks)
-    (pinned-last c.args.pins.now.blocks.items c.height-depth.result c.leaf-block.result)
+    subst (λ (xs : List ℕ). Contains xs c.leaf_at-block.result) (sym c.with_path-pinned.ensures.blocks)
+    (pinned-last c.args.pins.now.blocks.items c.height-depth.result c.leaf_at-block.result)
 
 pub load_path-requires-clause-parents : goal.load_path-requires-clause-parents
 load_path-requires-clause-parents g c =
     let position = rw (← c.self.view_is) at c.requires.position in
-    let at = load-depth _ c.args.position c.height-depth.result c.leaf-block.result c.height-depth.ensures.value c.leaf-block.ensures.value position in
+    let leaf = rw (← c.self.view_is) at c.leaf_at-block.ensures.value in
+    let at = load-depth _ c.args.position c.height-depth.result c.leaf_at-block.result c.height-depth.ensures.value leaf position in
     subst (λ (xs : List ℕ). HoldParents xs) (sym c.with_path-pinned.ensures.blocks)
-    (pinned-parents c.args.pins.now.blocks.items c.height-depth.result c.leaf-block.result c.requires.parents at)
+    (pinned-parents c.args.pins.now.blocks.items c.height-depth.result c.leaf_at-block.result c.requires.parents at)
 
 pub returns-clause-honest : goal.returns-clause-honest
 returns-clause-honest g c = loads-honest c.load_path.result _ _ _ _ c.load_path.ensures.changed
@@ -30,8 +31,9 @@ returns-then-holds-clause-ok g c =
     let stands = rw (← c.self.view_is) at c.requires.stands in
     let position = rw (← c.self.view_is) at c.requires.position in
     let at = leaf-depth layout c.args.position position in
+    let leaf = rw (← c.self.view_is) at c.leaf_at-block.ensures.value in
     let held : Holds lines (leaf_of layout c.args.position) =
-    subst (λ (n : ℕ). Holds lines n) c.leaf-block.ensures.value (sym c.if-holds.ensures.value) in
+    subst (λ (n : ℕ). Holds lines n) leaf (sym c.if-holds.ensures.value) in
     let none = uncached-held lines (height_of layout) (leaf_of layout c.args.position) at (g.met.L.Lines.sound c.self.inside.lines).parents held in
     rw (← c.self.view_is) (moved-still _ (c.args.pins.now.blocks.items ++ path_of layout c.args.position) (path_of layout c.args.position) _ _ _ _ stands c.touch.ensures.lines none)
 

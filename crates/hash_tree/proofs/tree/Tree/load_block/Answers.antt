@@ -20,7 +20,7 @@ returns-then-not-read-clause-fit g c = fits-other _ _ _ _ c.make_room.ensures.fi
 pub returns-clause-ok : goal.returns-clause-ok
 returns-clause-ok g c =
     let v = c.self.inside.veil in
-    let lawful = keeps-veil c.self.inside.layout (g.V.Veil.veiled v) (g.V.Veil.nodes v) c.self.invariant (g.met.V.Veil.own_inverse v) (g.met.V.Veil.keeps_length v) (g.met.V.Veil.leaves_nodes v) in
+    let lawful = keeps-veil c.self.inside.layout (g.V.Veil.veiled v) (g.V.Veil.nodes v) c.self.invariant.0 (g.met.V.Veil.own_inverse v) (g.met.V.Veil.keeps_length v) (g.met.V.Veil.leaves_nodes v) in
     let reads = rw (c.make_room.ensures.tree.layout, c.make_room.ensures.tree.veil) at c.if-not-read.ensures.does in
     let here = rw (← c.self.view_is) at reads in
     let moved = rw (← c.self.view_is) at c.make_room.ensures.does in

@@ -11,7 +11,7 @@ fresh-requires g c = stamps-below _ _ _ c.requires.fit c.requires.limit c.requir
 pub returns-clause-does : goal.returns-clause-does
 returns-clause-does g c =
     let v = c.self.inside.veil in
-    let lawful = keeps-veil c.self.inside.layout (g.V.Veil.veiled v) (g.V.Veil.nodes v) c.self.invariant (g.met.V.Veil.own_inverse v) (g.met.V.Veil.keeps_length v) (g.met.V.Veil.leaves_nodes v) in
+    let lawful = keeps-veil c.self.inside.layout (g.V.Veil.veiled v) (g.V.Veil.nodes v) c.self.invariant.0 (g.met.V.Veil.own_inverse v) (g.met.V.Veil.keeps_length v) (g.met.V.Veil.leaves_nodes v) in
     let below = stamps-below _ _ _ c.requires.fit c.requires.limit c.requires.has_room in
     let fits : c.fresh.result < 2 ^ 64 = omega (arith, below, c.fresh.ensures.next) in
     rw (← c.self.view_is) (writes-first _ _ lawful _ _ _ _ _ _ _ c.veil.ensures.value c.told-payload fits c.write_block.ensures.event.trace c.block_digest.ensures.value)

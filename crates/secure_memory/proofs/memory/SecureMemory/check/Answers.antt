@@ -9,6 +9,7 @@ use Rattle.stamp_log.specs.StandsOn.{StandsOn}
 use Rattle.secure_memory.specs.PrivatePads.{hidden_payload}
 use Rattle.secure_memory.specs.MemoryStands.{MemoryStands}
 use Rattle.secure_memory.proofs.EventLists.{GrowsElsewhere, check-elsewhere, tree-stays}
+use Rattle.secure_memory.proofs.PrivateLemmas.{grows-pads}
 use Rattle.secure_memory.proofs.memory.SecureMemory.check.Goals as goal
 
 -- what follows from what holds at Ok holds at Ok
@@ -34,3 +35,8 @@ returns-clause-stands g c =
       log_stands = stands;
       stamps_fit = c.check.ensures.fits;
     }) c.check.ensures.stands
+
+pub returns-clause-private : goal.returns-clause-private
+returns-clause-private g c = grows-pads _ _ _ _
+    (check-elsewhere (value_under c.args.self.now.log.key) c.args.self.now.log.blocks c.check.result (g.O.OffChip.trace c.args.self.now.lent.now) (g.O.OffChip.trace c.check.new.bus)
+    c.args.self.now.log.lines c.check.new.self.lines c.check.ensures.events)

@@ -1,5 +1,5 @@
 use Rattle.std.proofs.Common.{◌≡◌, ℕ, ◌+◌, ◌<◌, List, [], ◌∷◌, ◌++◌, length, length-append, refl, sym, ap, ◌∙◌, subst, arith}
-use Rattle.std.specs.Prelude.{Option}
+use Rattle.std.specs.Prelude.{Option, Some}
 use Rattle.std.specs.List.{All}
 use Rattle.std.specs.FinMap.{empty}
 use Rattle.std.proofs.lemmas.List.Elements.{All-nil, All-cons}
@@ -17,11 +17,12 @@ use Rattle.line_cache.specs.LineMaps.{LineMap}
 use Rattle.hash_tree.specs.Entering.{BlockMove, Entered}
 use Rattle.hash_tree.specs.HashTrees.{scheme_of, state_of}
 use Rattle.hash_tree.specs.TreeSteps.{IsElsewhere}
-use Rattle.stamp_log.specs.LogEvents.{zeros_written}
+use Rattle.stamp_log.specs.LogEvents.{zero_payload, zeros_written}
 use Rattle.stamp_log.specs.Starting.{HasNoLog}
 use Rattle.secure_memory.specs.PrivatePads.{Padding, hidden_payload}
 use Rattle.secure_memory.proofs.EventLists.{GrowsElsewhere, tree-stays}
 use Rattle.secure_memory.proofs.EntryEvents.{AllMoveBlocks, below-moves-blocks, log-unused, zeros-elsewhere, zeros-long, enter-elsewhere}
+use Rattle.secure_memory.proofs.PrivateLemmas.{entered-pads, grows-pads, pads-joined}
 use Rattle.secure_memory.proofs.memory.SecureMemory.enter.Goals as goal
 
 -- after one event, the trace is that event alone
@@ -123,3 +124,18 @@ pub returns-clause-room : goal.returns-clause-room
 returns-clause-room g c =
     let same = same_blocks c.args.self.now.tree.layout c.args.self.now.layout c.requires.parts.of_tree in
     omega (arith, same, c.note.ensures.event.room, c.enter-digest.ensures.count, c.enter-digest.ensures.total, c.start.ensures.room, c.requires.parts.of_log)
+
+pub returns-clause-private : goal.returns-clause-private
+returns-clause-private g c =
+    let veil = c.args.self.now.tree.veil in
+    let first = g.O.OffChip.trace c.note.new.self in
+    let middle = g.O.OffChip.trace c.enter-digest.new.bus in
+    let one : first ≡ Note Enter ∷ [] = one_event _ _ c.note.ensures.event.trace c.requires.unused in
+    let marked : GrowsElsewhere [] first = GrowsElsewhere.one_more [] [] first (Note Enter) (GrowsElsewhere.no_more []) enter-elsewhere one in
+    let started : GrowsElsewhere middle (g.O.OffChip.trace c.start.new.bus) =
+    subst (λ (t : List Event). GrowsElsewhere middle t) (sym c.start.ensures.events)
+    (zeros-elsewhere c.enter-digest.new.stamps c.args.self.now.log.blocks middle middle (GrowsElsewhere.no_more middle)) in
+    let entered = entered-pads c.args.self.now.tree.layout veil _ _ _ (c.requires.parts.of_veil ∙ sym c.requires.parts.of_tree) c.enter-digest.ensures.does in
+    pads-joined veil (λ n. Some zero_payload) [] first (g.O.OffChip.trace c.start.new.bus) (grows-pads veil (λ n. Some zero_payload) [] first marked)
+    (pads-joined veil (λ n. Some zero_payload) first middle (g.O.OffChip.trace c.start.new.bus) entered
+    (grows-pads veil (λ n. Some zero_payload) middle (g.O.OffChip.trace c.start.new.bus) started))

@@ -3,13 +3,13 @@ ghost use Rattle.std.specs.Prelude.{◌≡◌, ◌+◌, ◌≤◌, []};
 ghost use Rattle.off_chip.specs.BusCalls.{TellsOnly};
 ghost use Rattle.off_chip.specs.OffChipBytes.{static_blocks};
 
-use crate::{PrivatePad, SecureMemory};
 use aegis_num::{Key, OutOfMemory};
 use aes_pad::Aes;
 use hash_tree::{Tree, Veil};
 use line_cache::LineCache;
 use off_chip::{Event, Mark, OffChip, PlainDram, blocks_of_tree};
 use regions::{Layout, Mode};
+use secure_memory::{PrivatePad, SecureMemory};
 use stamp_log::StampLog;
 use std::alloc::Global;
 use std::test::Fail;

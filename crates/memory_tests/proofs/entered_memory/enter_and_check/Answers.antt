@@ -2,7 +2,7 @@ use Rattle.std.proofs.Common.{◌≡◌, ◌≤◌, ◌+◌, ap, sym, subst, ◌
 use Rattle.std.specs.Prelude.{Option}
 use Rattle.regions.specs.declared.layout.Layout.{Layout}
 use Rattle.off_chip.specs.BusCalls.{TellsOnly}
-use Rattle.secure_memory.proofs.tests.enter_and_check.Goals as goal
+use Rattle.memory_tests.proofs.entered_memory.enter_and_check.Goals as goal
 
 pub enter-digest-requires-clause-has_room : goal.enter-digest-requires-clause-has_room
 enter-digest-requires-clause-has_room g c = rw c.new-memory.ensures.layout (rw c.new-memory.ensures.bus (omega arith))
