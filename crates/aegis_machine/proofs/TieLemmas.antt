@@ -40,7 +40,7 @@ use Rattle.orbis_core.specs.Processor.{Processor}
 use Rattle.orbis_core.specs.Rows.{Machine, GoesOnAfter, IsSettledEnd, IsStopped, Steps}
 use Rattle.bus_machine.specs.BusAccesses.{MeetsBus, ReadsBlock, Sight, UnlessRefused, is_access_event, is_block_event}
 use Rattle.bus_machine.specs.BusMachine.{LoadedProgram, Veil, blocks_taken, bus_machine, bus_step, bus_step_after}
-use Rattle.bus_machine.specs.BusSteps.{StepsOnBus, bus_state}
+use Rattle.bus_machine.specs.BusSteps.{SameButWords, StepsOnBus, bus_state}
 use Rattle.bus_machine.specs.BusTurns.{GoesOver, StandsAt, reading}
 use Rattle.bus_machine.proofs.BusStepLemmas.{step-on-bus}
 use Rattle.bus_machine.proofs.SegmentLemmas.{taken-append}
@@ -49,7 +49,7 @@ use Rattle.aegis_machine.specs.Ties.{EndsTied, IsTied, RefusedTied, Retires, Sta
 
 -- ---- events of accesses end no instruction
 
-block-goes-on : (event : Event) → is_block_event event ≡ true → is_retire event ≡ false
+pub block-goes-on : (event : Event) → is_block_event event ≡ true → is_retire event ≡ false
 block-goes-on (BlockRead at block) is = refl
 block-goes-on (BlockWrite at block) is = refl
 block-goes-on (WordRead by at word) is = refl
@@ -57,20 +57,20 @@ block-goes-on (WordWrite by at word) is = refl
 block-goes-on (Note (marks.Drop at)) is = refl
 block-goes-on (Note mark) is = cc
 
-access-goes-on : (event : Event) → is_access_event event ≡ true → is_retire event ≡ false
+pub access-goes-on : (event : Event) → is_access_event event ≡ true → is_retire event ≡ false
 access-goes-on (BlockRead at block) is = refl
 access-goes-on (BlockWrite at block) is = refl
 access-goes-on (WordRead by at word) is = refl
 access-goes-on (WordWrite by at word) is = refl
 access-goes-on (Note mark) is = block-goes-on (Note mark) is
 
-accesses-go-on : (events : List Event) → list_all is_access_event events ≡ true → list_any is_retire events ≡ false
+pub accesses-go-on : (events : List Event) → list_all is_access_event events ≡ true → list_any is_retire events ≡ false
 accesses-go-on [] all = refl
 accesses-go-on (event ∷ events) all =
     let parts = and_parts (is_access_event event) (list_all is_access_event events) all in
     or_from (is_retire event) (list_any is_retire events) (access-goes-on event parts.0) (accesses-go-on events parts.1)
 
-both-go-on : (events more : List Event) → list_any is_retire events ≡ false → list_any is_retire more ≡ false → list_any is_retire (events ++ more) ≡ false
+pub both-go-on : (events more : List Event) → list_any is_retire events ≡ false → list_any is_retire more ≡ false → list_any is_retire (events ++ more) ≡ false
 both-go-on events more one other = list_any-append is_retire events more ∙ or_from (list_any is_retire events) (list_any is_retire more) one other
 
 -- ---- how steps end
@@ -78,7 +78,7 @@ both-go-on events more one other = list_any-append is_retire events more ∙ or_
 abbrev IsNotStopped : StepEnd → Type 0
 IsNotStopped ended = (reason : Stop) → ended ≡ end.Stopped reason → ⊥
 
-settled-of : (ended : StepEnd) → IsNotStopped ended → IsSettledEnd ended
+pub settled-of : (ended : StepEnd) → IsNotStopped ended → IsSettledEnd ended
 settled-of (end.Stopped reason) none = absurd (none reason refl)
 settled-of ended none = tt
 
@@ -149,7 +149,7 @@ module _ {M : Type 0} (sight : Sight M) (accesses : Accesses M) (meets : MeetsBu
   start events = bus_state sight old events tie.state.memory tie.state.traffic
 
   -- what the bus machine reads is what the step is told over
-  same-start : (events : List Event) → reading V program events tie.state ≡ start events
+  pub same-start : (events : List Event) → reading V program events tie.state ≡ start events
   same-start events =
       ap (λ (c : Processor). record { core = c; mode = tie.state.mode; memory = blocks_taken program.layout V events tie.state.memory; traffic = tie.state.traffic }) tie.core
       ∙ ap (λ (m : Mode). record { core = old.core; mode = m; memory = blocks_taken program.layout V events tie.state.memory; traffic = tie.state.traffic }) tie.mode
@@ -158,12 +158,12 @@ module _ {M : Type 0} (sight : Sight M) (accesses : Accesses M) (meets : MeetsBu
   abbrev next : List Event → Next Ideal IdealEnd
   next events = bus_step (sight.layout old.memory) events (start events)
 
-  same-next : (events : List Event) → bus_step program.layout events (reading V program events tie.state) ≡ next events
+  pub same-next : (events : List Event) → bus_step program.layout events (reading V program events tie.state) ≡ next events
   same-next events =
       ap (λ (s : Ideal). bus_step program.layout events s) (same-start events) ∙ ap (λ (l : Layout). bus_step l events (start events)) (sym tie.layout)
 
   -- after the events of the step
-  trace-new : history (sight.trace new.memory) ≡ followed older on.events
+  pub trace-new : history (sight.trace new.memory) ≡ followed older on.events
   trace-new = history-append (sight.trace new.memory) (sight.trace old.memory) on.events on.makes.trace
 
   refused-by : (reason : Why) → next on.events ≡ Stops (Refused reason) (start on.events) → RefusedTied sight program reason new.memory
@@ -182,21 +182,21 @@ module _ {M : Type 0} (sight : Sight M) (accesses : Accesses M) (meets : MeetsBu
       refused-by why.Mode (forbidden-next ended (start on.events) along.after (next on.events) along.answers permitted)
 
   -- the step over these events, and what the lines agree with after it
-  record Reached (events : List Event) (last : M) : Type 0 where
-    after : Ideal
-    core : after.core ≡ new.core
-    mode : after.mode ≡ sight.mode old.memory
-    agrees : sight.Agrees last after.memory
-    input : HasInput new.port (traffic_read ended after.traffic)
-    bytes : after.traffic.bytes ≡ tie.state.traffic.bytes
-    answers : Answers ended (start events) after (next events)
+  pub record Reached (events : List Event) (last : M) : Type 0 where
+    pub after : Ideal
+    pub core : after.core ≡ new.core
+    pub mode : after.mode ≡ sight.mode old.memory
+    pub agrees : sight.Agrees last after.memory
+    pub input : HasInput new.port (traffic_read ended after.traffic)
+    pub exchanged : SameButWords tie.state.traffic after.traffic
+    pub answers : Answers ended (start events) after (next events)
 
   module _ (more : List Event) (last : M) (none : IsNotStopped ended) (retires : Retires sight ended more new.memory last) where
     abbrev all : List Event
     all = on.events ++ more
 
     -- the program counter is an address of code, which lies before the log
-    fetched-by : (r : Option Why) → word_refusal (sight.layout old.memory) (sight.mode old.memory) Fetch old.core.pc ≡ r → old.core.pc < LOG_START
+    pub fetched-by : (r : Option Why) → word_refusal (sight.layout old.memory) (sight.mode old.memory) Fetch old.core.pc ≡ r → old.core.pc < LOG_START
     fetched-by (Some reason) is =
         let P : Option Why → Type 0 = λ r. UnlessRefused sight r step.answer old.memory step.middle (ReadsBlock sight (λ memory. memory old.core.pc) step.answer old.memory step.middle) in
         let row = subst P is (meets.fetch old.memory step.middle old.core.pc step.answer tie.secure step.fetched) in
@@ -210,7 +210,7 @@ module _ {M : Type 0} (sight : Sight M) (accesses : Accesses M) (meets : MeetsBu
         let below = lies.1 in
         omega (arith, below, fits)
 
-    word-left : blocks_taken (sight.layout old.memory) V all tie.state.memory old.core.pc ≡ blocks_taken (sight.layout old.memory) V on.events tie.state.memory old.core.pc
+    pub word-left : blocks_taken (sight.layout old.memory) V all tie.state.memory old.core.pc ≡ blocks_taken (sight.layout old.memory) V on.events tie.state.memory old.core.pc
     word-left =
         let taken : ℕ → ℕ = blocks_taken (sight.layout old.memory) V on.events tie.state.memory in
         ap (λ (m : ℕ → ℕ). m old.core.pc) (taken-append (sight.layout old.memory) V on.events more tie.state.memory)
@@ -224,7 +224,7 @@ module _ {M : Type 0} (sight : Sight M) (accesses : Accesses M) (meets : MeetsBu
         let Q : Veil → Type 0 = λ v. sight.Agrees last (blocks_taken (sight.layout old.memory) v more memory) in
         subst Q on.makes.veil (subst P on.makes.layout (retires.agrees memory agrees))
 
-    reached : (b : Bool) → is_some (secure_of_end ended) ≡ b → Reached all last
+    pub reached : (b : Bool) → is_some (secure_of_end ended) ≡ b → Reached all last
     reached true is =
         let later = on.goes_later is tie.state.memory tie.state.traffic tie.agrees tie.input more word-left in
         let P : (ℕ → ℕ) → Type 0 = λ m. sight.Agrees last m in
@@ -235,7 +235,7 @@ module _ {M : Type 0} (sight : Sight M) (accesses : Accesses M) (meets : MeetsBu
           agrees = subst P (sym (taken-append (sight.layout old.memory) V on.events more tie.state.memory))
               (agrees-later (blocks_taken (sight.layout old.memory) V on.events tie.state.memory) later.agrees);
           input = later.port;
-          bytes = refl;
+          exchanged = record { input = refl; bytes = refl; releases = refl; checks = refl; suspensions = refl };
           answers = later.answers;
         }
     reached false is =
@@ -250,7 +250,7 @@ module _ {M : Type 0} (sight : Sight M) (accesses : Accesses M) (meets : MeetsBu
           mode = along.mode;
           agrees = subst P no_more (agrees-later along.after.memory along.agrees);
           input = along.port;
-          bytes = along.exchanged.bytes;
+          exchanged = along.exchanged;
           answers = subst Q (sym same) along.answers;
         }
 
@@ -258,7 +258,7 @@ module _ {M : Type 0} (sight : Sight M) (accesses : Accesses M) (meets : MeetsBu
     abbrev marked : History
     marked = Note (marks.Retire Secure) ◂ followed older all
 
-    trace-last : history (sight.trace last) ≡ marked
+    pub trace-last : history (sight.trace last) ≡ marked
     trace-last =
         let parts : sight.trace last ≡ (sight.trace old.memory ++ all) ++ Note (marks.Retire Secure) ∷ [] =
         retires.trace ∙ ap (λ (t : List Event). t ++ (more ++ Note (marks.Retire Secure) ∷ [])) on.makes.trace
@@ -268,13 +268,13 @@ module _ {M : Type 0} (sight : Sight M) (accesses : Accesses M) (meets : MeetsBu
         history-appended (sight.trace old.memory ++ all) (sight.trace last) (Note (marks.Retire Secure)) parts
         ∙ ap (λ (h : History). Note (marks.Retire Secure) ◂ h) (history-append (sight.trace old.memory ++ all) (sight.trace old.memory) all refl)
 
-    veil-last : sight.veil last ≡ V
+    pub veil-last : sight.veil last ≡ V
     veil-last = retires.veil ∙ on.makes.veil
 
-    over : GoesOver V program older tie.state all
+    pub over : GoesOver V program older tie.state all
     over = goes-over V program older tie.state all tie.stands (both-go-on on.events more (accesses-go-on on.events on.accesses) retires.others)
 
-    comes : (at : Reached all last) → is_permitted (secure_of_end ended) (sight.mode old.memory) ≡ true → bus_machine V program marked ≡ comes_to ended at.after
+    pub comes : (at : Reached all last) → is_permitted (secure_of_end ended) (sight.mode old.memory) ≡ true → bus_machine V program marked ≡ comes_to ended at.after
     comes at permitted = over.done ∙ same-next all ∙ permitted-next ended (start all) at.after (next all) none at.answers permitted
 
     tied-at : (state : Ideal) → bus_machine V program marked ≡ Goes state → state.core ≡ new.core → state.mode ≡ sight.mode last → IsTrue (is_secure (sight.mode last))
@@ -350,7 +350,7 @@ module _ {M : Type 0} (sight : Sight M) (accesses : Accesses M) (meets : MeetsBu
     bytes-after (end.Index place) state not_stopped = sym (append-nil state.traffic.bytes)
     bytes-after (end.Divide place) state not_stopped = sym (append-nil state.traffic.bytes)
 
-    released : is_permitted (secure_of_end ended) (sight.mode old.memory) ≡ true
+    pub released : is_permitted (secure_of_end ended) (sight.mode old.memory) ≡ true
         → (state_of (bus_machine (sight.veil last) program (history (sight.trace last)))).traffic.bytes ≡ tie.state.traffic.bytes ++ released_by ended
     released permitted =
         let at = reached (is_some (secure_of_end ended)) refl in
@@ -358,9 +358,9 @@ module _ {M : Type 0} (sight : Sight M) (accesses : Accesses M) (meets : MeetsBu
         ∙ ap (λ (h : History). (state_of (bus_machine V program h)).traffic.bytes) trace-last
         ∙ ap (λ (n : Next Ideal IdealEnd). (state_of n).traffic.bytes) (comes at permitted)
         ∙ bytes-after ended at.after none
-        ∙ ap (λ (bytes : List ℕ). bytes ++ released_by ended) at.bytes
+        ∙ ap (λ (bytes : List ℕ). bytes ++ released_by ended) at.exchanged.bytes
 
-    retired : is_permitted (secure_of_end ended) (sight.mode old.memory) ≡ true → StandsAfter sight program (end_of ended) (record new { memory = last })
+    pub retired : is_permitted (secure_of_end ended) (sight.mode old.memory) ≡ true → StandsAfter sight program (end_of ended) (record new { memory = last })
     retired permitted =
         let at = reached (is_some (secure_of_end ended)) refl in
         by-end ended refl at (comes at permitted) at.input permitted

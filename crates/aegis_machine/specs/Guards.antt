@@ -1,6 +1,5 @@
--- Promise: what the machine needs of a memory on a bus beside its five accesses, and what it makes of it after a step.
-use Rattle.std.specs.Prelude.{◌≡◌, ℕ, ◌<◌, Bool, true, false, is_some, if◌then◌else◌, List, [], ◌++◌}
-use Rattle.std.specs.List.{list_any}
+-- Promise: what the machine needs of a memory on a bus beside its five accesses.
+use Rattle.std.specs.Prelude.{◌≡◌, ℕ, ◌<◌, Bool, true, false, if◌then◌else◌, List, [], ◌++◌}
 use Rattle.regions.specs.declared.addresses.TheConstants.{LOG_START}
 use Rattle.regions.specs.declared.Mode.{Mode}
 use Rattle.regions.specs.declared.Mode.TheVariants.{Te, Ptr}
@@ -8,13 +7,12 @@ use Rattle.off_chip.specs.declared.Event.{Event}
 use Rattle.off_chip.specs.declared.Mark.{Mark}
 use Rattle.off_chip.specs.declared.Mark.TheVariants.{Retire, Sent}
 use Rattle.off_chip.specs.declared.Who.TheVariants.{Secure}
-use Rattle.off_chip.specs.Boundaries.{is_retire}
 use Rattle.orbis_core.specs.declared.StepEnd.{StepEnd}
 use Rattle.orbis_core.specs.declared.StepEnd.TheVariants as end
-use Rattle.orbis_core.specs.OwnMemory.{secure_of_end}
-use Rattle.bus_machine.specs.BusAccesses.{Sight}
+use Rattle.stamp_log.specs.declared.LogCause.{LogCause}
+use Rattle.bus_machine.specs.BusAccesses.{Makes, Sight}
 use Rattle.bus_machine.specs.BusMachine.{blocks_taken}
-use Rattle.aegis_machine.specs.Ties.{Retires, mode_after}
+use Rattle.aegis_machine.specs.InstructionsDone.{IsCheck, IsFailedCheck, IsSuspension}
 
 -- a mark that the machine itself makes: an instruction of the secure program is done, or bytes are sent
 abbrev pub is_own_mark : Mark → Bool
@@ -35,11 +33,24 @@ pub record LeadsOn {M : Type 0} (sight : Sight M) (events : List Event) (old new
   pub leads : Leads sight events old new
   pub mode : sight.mode new ≡ sight.mode old
 
--- some events were made so, none of which ends an instruction
-pub record GoesFurther {M : Type 0} (sight : Sight M) (old new : M) : Type 0 where
+-- a check passed
+pub record PassesCheck {M : Type 0} (sight : Sight M) (old new : M) : Type 0 where
   pub events : List Event
+  pub check : IsCheck events
   pub leads_on : LeadsOn sight events old new
-  pub others : list_any is_retire events ≡ false
+
+-- a check did not pass, for this cause
+pub record MissesCheck {M : Type 0} (sight : Sight M) (Caused : LogCause → M → Type 0) (cause : LogCause) (old new : M) : Type 0 where
+  pub events : List Event
+  pub check : IsFailedCheck events
+  pub makes : Makes sight events old new
+  pub caused : Caused cause new
+
+-- the program was suspended, and goes on
+pub record Suspends {M : Type 0} (sight : Sight M) (old new : M) : Type 0 where
+  pub events : List Event
+  pub suspension : IsSuspension events
+  pub leads_on : LeadsOn sight events old new
 
 -- the mode from which private data is opened, or closed
 abbrev pub set_from : Bool → Mode
@@ -49,19 +60,6 @@ set_from on = if on then Te else Ptr
 pub record SetsPrivate {M : Type 0} (sight : Sight M) (on : Bool) (old new : M) : Type 0 where
   pub leads : Leads sight [] old new
   pub mode : sight.mode new ≡ (if on then Ptr else Te)
-
--- after a step that ended so came what belongs to it: events that end no instruction, and none where it was that of no secure instruction
-pub record FollowsUp {M : Type 0} (sight : Sight M) (ended : StepEnd) (old new : M) : Type 0 where
-  pub more : List Event
-  pub leads : Leads sight more old new
-  pub others : list_any is_retire more ≡ false
-  pub none : is_some (secure_of_end ended) ≡ false → more ≡ []
-  pub mode : sight.mode new ≡ mode_after ended (sight.mode old)
-
--- and then its mark
-pub record IsRetired {M : Type 0} (sight : Sight M) (ended : StepEnd) (old new : M) : Type 0 where
-  pub more : List Event
-  pub retires : Retires sight ended more old new
 
 -- the room that a memory needs for what may come after a step: 16,386 events for a suspension, 1,058 for a check, a piece that is sent, and the mark
 abbrev pub room_after : StepEnd → ℕ

@@ -1,5 +1,10 @@
+pub mod Boundaries
+pub mod Follows
 pub mod FuelTests
 pub mod Guards
+pub mod InstructionsDone
+pub mod Keeping
+pub mod MachineParts
 pub mod Outcomes
 pub mod Releases
 pub mod SecureSights

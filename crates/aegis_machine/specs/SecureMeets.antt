@@ -1,16 +1,13 @@
 -- Device: the accesses of a secure memory keep to the form of a bus.
 use Rattle.std.proofs.Common.{◌≡◌, ℕ, ◌+◌, ◌-◌, ◌*◌, ◌/◌, ◌%◌, ◌<◌, ◌≤◌, Bool, true, false, Option, Some, None, Result, Ok, Err, List, [], ◌∷◌, ◌++◌, refl, sym, ap, ◌∙◌, subst, append-nil, arith, inl, inr}
-use Rattle.std.specs.Prelude.{IsTrue, ◌&&◌, ◌==◌, if◌then◌else◌, is_some, nat_le, nat_lt}
+use Rattle.std.specs.Prelude.{IsTrue, ◌&&◌, if◌then◌else◌, is_some, nat_le, nat_lt}
 use Rattle.std.specs.List.{All, list_all}
 use Rattle.std.proofs.lemmas.Bool.{and_from, cases_Bool}
 use Rattle.std.proofs.lemmas.Bool.Decides.{nat_tests}
 use Rattle.std.proofs.lemmas.List.Elements.{All-head, All-tail}
-use Rattle.aegis_num.specs.declared.storage.Block.{Block}
-use Rattle.aegis_num.specs.declared.storage.Place.{Place}
 use Rattle.aegis_num.specs.declared.storage.Place.TheVariants.{Log, Tree}
 use Rattle.regions.specs.declared.addresses.TheConstants.{OPEN_END}
 use Rattle.regions.specs.declared.layout.Layout.{Layout}
-use Rattle.regions.specs.declared.rights.Access.{Access}
 use Rattle.regions.specs.declared.rights.Access.TheVariants.{Fetch, Read, Write}
 use Rattle.regions.specs.declared.rights.Mode.{Mode}
 use Rattle.regions.specs.Addresses.{block_start, offset_at}
@@ -19,7 +16,6 @@ use Rattle.regions.specs.LooseClasses.{shared_loose}
 use Rattle.regions.specs.Modes.{is_secure}
 use Rattle.off_chip.specs.declared.event.Event.{Event}
 use Rattle.off_chip.specs.declared.event.Event.TheVariants.{BlockRead, BlockWrite, Note, WordRead, WordWrite}
-use Rattle.off_chip.specs.declared.event.Mark.{Mark}
 use Rattle.off_chip.specs.declared.event.Mark.TheVariants as mark
 use Rattle.off_chip.specs.declared.event.Who.TheVariants.{Secure}
 use Rattle.orbis_core.specs.declared.memory.Stop.{Stop}
@@ -27,20 +23,20 @@ use Rattle.orbis_core.specs.declared.memory.Stop.TheVariants as stop
 use Rattle.orbis_core.specs.declared.memory.Why.{Why}
 use Rattle.orbis_core.specs.declared.memory.Why.TheVariants.{Rights}
 use Rattle.orbis_core.specs.Accesses.{IsSettled, LeaveOneFewer}
-use Rattle.orbis_core.specs.ByteOrder.{byte_in, updated, with_block, with_byte, word_start}
+use Rattle.orbis_core.specs.ByteOrder.{byte_in, with_block, with_byte, word_start}
 use Rattle.orbis_core.specs.Ideal.{is_among}
 use Rattle.orbis_core.specs.Refusals.{byte_refusal, word_refusal}
 use Rattle.hash_tree.specs.HashTrees.{nodes_of}
 use Rattle.hash_tree.specs.TreeParts.{TreeParts}
 use Rattle.secure_memory.specs.PrivatePads.{Padding, hidden_payload}
-use Rattle.secure_memory.specs.BlockWords.{IsPlaced, after_read, after_reads, byte_at, is_memory_block, place_at, start_at, word_at}
+use Rattle.secure_memory.specs.BlockWords.{IsPlaced, after_read, after_reads, is_memory_block, place_at, start_at, word_at}
 use Rattle.secure_memory.specs.AccessesLeft.{Leaves, fetches-leave, loads-leave, stores-leave}
 use Rattle.secure_memory.specs.MemorySights.{Agrees, HasLeft, IsReady, Sight as SecureSight, line_in, veil_of}
-use Rattle.secure_memory.specs.MemoryAccesses.{Acts, FetchesWord, IsStopped, IsStoppedBy, Loads, LoadsBlock, LoadsOpen, OpenOrBlock, Reaches, Stores, StoresBlock, StoresOpen, Unless, changed, is_block_move, pinning, secure_accesses}
+use Rattle.secure_memory.specs.MemoryAccesses.{Acts, FetchesWord, IsStopped, Loads, LoadsBlock, LoadsOpen, Stores, StoresBlock, StoresOpen, Unless, changed, is_block_move, pinning, secure_accesses}
 use Rattle.secure_memory.proofs.AccessLemmas.{LiesAt, lies-at}
 use Rattle.secure_memory.proofs.IdealLemmas.{among-closed, among-open, byte-placed, either, refused-open, word-parts}
-use Rattle.bus_machine.specs.BusAccesses.{ByClass, Exchanges, Fails, Makes, MeetsBus, Moves, PutsInBlock, ReadsBlock, ReadsOpen, Sight, UnlessRefused, is_block_event}
-use Rattle.bus_machine.specs.BusMachine.{Veil, block_taken, blocks_taken, is_data, memory_after}
+use Rattle.bus_machine.specs.BusAccesses.{ByClass, Exchanges, Fails, Makes, MeetsBus, Moves, PutsInBlock, ReadsBlock, ReadsOpen, UnlessRefused, is_block_event}
+use Rattle.bus_machine.specs.BusMachine.{Veil, blocks_taken, is_data, memory_after}
 use Rattle.aegis_machine.specs.SecureSights.{bus_sight}
 
 -- ---- the two say the same of blocks that are read

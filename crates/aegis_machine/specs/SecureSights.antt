@@ -1,5 +1,4 @@
 -- Promise: how a secure memory is seen by the machine, and that its five accesses keep to the form of a bus.
-use Rattle.std.specs.Prelude.{ℕ}
 use Rattle.bus_machine.specs.BusAccesses.{MeetsBus, Sight}
 use Rattle.secure_memory.specs.MemoryAccesses.{secure_accesses}
 use Rattle.secure_memory.specs.MemorySights.{Agrees, Sight as SecureSight, veil_of}

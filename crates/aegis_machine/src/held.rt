@@ -71,6 +71,7 @@ impl Held {
         ensures marked { LeadsOn M.sight (mark_sent self.old) mem.old mem.new }
         ensures room { M.room mem.new + length (mark_sent self.old) ≡ M.room mem.old }
         ensures ready { M.ready mem.new }
+        ensures kept { M.Keeps mem.old mem.new }
         ensures none { self.old ≡ [] → out.new ≡ out.old }
         ensures taken { OnOk result (Appends (K.written out.old) (K.written out.new) self.old) }
         ensures left { OnOk result (K.limit out.new ≡ limit_after (K.limit out.old) (length self.old)) }

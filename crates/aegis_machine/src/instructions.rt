@@ -1,9 +1,16 @@
 //! One instruction of the secure program, with all that belongs to it.
-ghost use Rattle.std.specs.Prelude.{◌≡◌, true, ◌+◌, ◌<◌, ◌≤◌, [], length, OnOk};
+ghost use Rattle.std.specs.Prelude.{◌≡◌, ℕ, true, ◌+◌, ◌%◌, ◌^◌, ◌==◌, ◌<◌, ◌≤◌, List, [], length, IsTrue, IfErr, OnOk, ◌↔◌};
+ghost use Rattle.regions.specs.Modes.{is_secure};
+ghost use Rattle.off_chip.specs.Epochs.{IsQuiet};
+ghost use Rattle.off_chip.specs.Histories.{history};
 ghost use Rattle.orbis_core.specs.OwnMemory.{is_permitted, secure_of_end};
+ghost use Rattle.bus_machine.specs.BusData.{most_held};
 ghost use Rattle.bus_machine.specs.BusMachine.{LoadedProgram};
 ghost use Rattle.aegis_machine.specs.declared.instructions.Done.TheVariants.{Goes};
-ghost use Rattle.aegis_machine.specs.Guards.{FollowsUp, GoesFurther, IsRetired, LeadsOn, room_after};
+ghost use Rattle.aegis_machine.specs.declared.instructions.Fault.TheVariants.{Sink as SinkFails};
+ghost use Rattle.aegis_machine.specs.Follows.{Comes, Finishes, Follows, answer_of};
+ghost use Rattle.aegis_machine.specs.Guards.{LeadsOn, room_after};
+ghost use Rattle.aegis_machine.specs.InstructionsDone.{DoesSo, HandsOut, Releases, Settles};
 ghost use Rattle.aegis_machine.specs.Outcomes.{LeavesTied, TakesMore, done_of, done_stopped};
 ghost use Rattle.aegis_machine.specs.Releases.{mark_sent};
 ghost use Rattle.aegis_machine.specs.Ties.{IsTied};
@@ -66,9 +73,13 @@ fn settle<M: Guarded, K: Sink>(mem: &mut M, held: &mut Held, out: &mut K) -> Res
     requires has_room { 1059 ≤ M.room mem.old }
     requires takes { TakesMore (K.limit out.old) MAX_HELD }
     requires most { length held.old ≤ MAX_HELD }
-    ensures further { OnOk result (GoesFurther M.sight mem.old mem.new) }
+    ensures does { (piece : List ℕ)
+        × Comes M.sight M.Caused true (Settles held.old) (λ mode. mode) result held.new piece mem.old mem.new
+        × HandsOut (answer_of result) (K.written out.old) (K.written out.new)
+        (K.faults out.old) (K.faults out.new) (K.limit out.old) (K.limit out.new) piece }
     ensures room { M.room mem.old ≤ M.room mem.new + 1059 }
     ensures ready { OnOk result (M.ready mem.new) }
+    ensures kept { M.Keeps mem.old mem.new }
     ensures empty { OnOk result (held.new ≡ []) }
 {
     if let Err(cause) = mem.check() {
@@ -84,14 +95,26 @@ fn send<M: Guarded, K: Sink>(mem: &mut M, held: &mut Held, out: &mut K) -> Resul
     requires takes { TakesMore (K.limit out.old) MAX_HELD }
     requires most { length held.old ≤ MAX_HELD }
     ensures event { LeadsOn M.sight (mark_sent held.old) mem.old mem.new }
+    ensures hands { HandsOut (answer_of result) (K.written out.old) (K.written out.new)
+        (K.faults out.old) (K.faults out.new) (K.limit out.old) (K.limit out.new) held.old }
+    ensures fault { IfErr result (λ fault. fault ≡ SinkFails) }
     ensures room { M.room mem.old ≤ M.room mem.new + 1 }
     ensures ready { M.ready mem.new }
+    ensures kept { M.Keeps mem.old mem.new }
     ensures empty { held.new ≡ [] }
 {
     match held.send(mem, out) {
         Ok(()) => Ok(()),
         Err(_fault) => Err(Fault::Sink),
     }
+}
+
+// Whether a byte that is released is sent at once: nothing is held, and no read waits for a check.
+fn sends_at_once<M: Guarded>(mem: &M, held: &Held) -> bool
+    requires ready { M.ready mem.now }
+    ensures { IsTrue result ↔ ((held.now ≡ []) × IsQuiet (history (M.sight.trace mem.now))) }
+{
+    held.is_empty() && mem.quiet()
 }
 
 // Releases a byte: it is sent at once where nothing is held and no read waits for a check. Else it is held, and where as many
@@ -106,12 +129,18 @@ fn release<M: Guarded, K: Sink>(
     requires has_room { 1059 ≤ M.room mem.old }
     requires takes { TakesMore (K.limit out.old) MAX_HELD }
     requires few { length held.old < MAX_HELD }
-    ensures further { OnOk result (GoesFurther M.sight mem.old mem.new) }
+    ensures does { (piece : List ℕ)
+        × Comes M.sight M.Caused (length held.old + 1 == most_held)
+        (Releases (history (M.sight.trace mem.old)) (byte % 2 ^ 8) held.old) (λ mode. mode)
+        result held.new piece mem.old mem.new
+        × HandsOut (answer_of result) (K.written out.old) (K.written out.new)
+        (K.faults out.old) (K.faults out.new) (K.limit out.old) (K.limit out.new) piece }
     ensures room { M.room mem.old ≤ M.room mem.new + 1059 }
     ensures ready { OnOk result (M.ready mem.new) }
+    ensures kept { M.Keeps mem.old mem.new }
     ensures few { OnOk result (length held.new < MAX_HELD) }
 {
-    let at_once = held.is_empty() && mem.quiet();
+    let at_once = sends_at_once(mem, held);
     held.hold(byte);
     if at_once {
         return send(mem, held, out);
@@ -134,9 +163,13 @@ fn follow_up<M: Guarded, K: Sink>(
     requires has_room { room_after end ≤ M.room mem.old }
     requires takes { TakesMore (K.limit out.old) MAX_HELD }
     requires few { length held.old < MAX_HELD }
-    ensures follows { OnOk result (FollowsUp M.sight end mem.old mem.new) }
+    ensures does { (piece : List ℕ)
+        × Follows M.sight M.Caused end result held.old held.new piece mem.old mem.new
+        × HandsOut (answer_of result) (K.written out.old) (K.written out.new)
+        (K.faults out.old) (K.faults out.new) (K.limit out.old) (K.limit out.new) piece }
     ensures room { M.room mem.old < M.room mem.new + room_after end }
     ensures ready { OnOk result (M.ready mem.new) }
+    ensures kept { M.Keeps mem.old mem.new }
     ensures few { OnOk result (length held.new < MAX_HELD) }
 {
     match end {
@@ -173,8 +206,12 @@ fn finish<M: Guarded, K: Sink>(
     requires has_room { room_after end ≤ M.room mem.old }
     requires takes { TakesMore (K.limit out.old) MAX_HELD }
     requires few { length held.old < MAX_HELD }
-    ensures retired { OnOk result (IsRetired M.sight end mem.old mem.new) }
+    ensures does { (piece : List ℕ)
+        × Finishes M.sight M.Caused end result held.old held.new piece mem.old mem.new
+        × HandsOut (answer_of result) (K.written out.old) (K.written out.new)
+        (K.faults out.old) (K.faults out.new) (K.limit out.old) (K.limit out.new) piece }
     ensures ready { OnOk result (M.ready mem.new) }
+    ensures kept { M.Keeps mem.old mem.new }
     ensures few { OnOk result (length held.new < MAX_HELD) }
 {
     if let Err(fault) = follow_up(mem, held, out, end) {
@@ -219,10 +256,19 @@ pub fn instruction<M: Guarded, K: Sink>(
     out: &mut K,
 ) -> Done
     requires ready { M.ready mem.old }
+    requires secure { IsTrue (is_secure (M.sight.mode mem.old)) }
     requires has_room { 16640 ≤ M.room mem.old }
     requires port { port.old.next ≤ length port.old.input.now }
     requires takes { TakesMore (K.limit out.old) MAX_HELD }
     requires few { length held.old < MAX_HELD }
+
+    // Its step is made, and what belongs to it comes after it, with one piece at most that is handed out.
+    ensures does { (piece : List ℕ)
+        × DoesSo M.sight M.accesses M.Caused result held.old held.new piece
+        (record { core = core.old; memory = mem.old; port = port.old })
+        (record { core = core.new; memory = mem.new; port = port.new })
+        × HandsOut result (K.written out.old) (K.written out.new)
+        (K.faults out.old) (K.faults out.new) (K.limit out.old) (K.limit out.new) piece }
 
     // It goes along with the bus machine of the trace.
     ensures tied { (program : LoadedProgram)
@@ -230,6 +276,8 @@ pub fn instruction<M: Guarded, K: Sink>(
         → LeavesTied M.sight program result
         (record { core = core.new; memory = mem.new; port = port.new }) }
     ensures port { port.new.next ≤ length port.new.input.now }
+    ensures input { port.new.input ≡ port.old.input }
+    ensures kept { M.Keeps mem.old mem.new }
 
     // Where it goes on, so can the next one.
     ensures ready { result ≡ Goes → M.ready mem.new }

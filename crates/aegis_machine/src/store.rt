@@ -1,5 +1,5 @@
 //! What a run keeps on the chip.
-ghost use Rattle.std.specs.Prelude.{IfOk};
+ghost use Rattle.std.specs.Prelude.{◌≡◌, IfOk};
 ghost use Rattle.aegis_machine.specs.Stores.{HasKeys, IsNewStore};
 
 use crate::held::Held;
@@ -27,6 +27,18 @@ impl<L: Lines> Model for Store<L> {
     ghost Value = { StoreParts L };
 
     ghost view = { λ s. record { tree = s.tree; log = s.log; held = s.held } };
+}
+
+impl<L: Lines> Store<L> {
+    // Its tree, its log and the bytes that it holds.
+    pub(crate) fn apart(self) -> (Tree<L, PrivatePad>, StampLog, Held)
+        ensures tree { result.0 ≡ self.tree }
+        ensures log { result.1 ≡ self.log }
+        ensures held { result.2 ≡ self.held }
+    {
+        let Store { tree, log, held } = self;
+        (tree, log, held)
+    }
 }
 
 impl Store<LineCache> {

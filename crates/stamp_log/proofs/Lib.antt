@@ -6,6 +6,7 @@ pub mod LogLemmas
 pub mod LoadLemmas
 pub mod CheckLemmas
 pub mod PassLemmas
+pub mod RoomLemmas
 pub mod StartLemmas
 pub mod ContentLemmas
 pub mod EventLemmas

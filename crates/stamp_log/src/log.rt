@@ -92,7 +92,10 @@ impl StampLog {
         ensures fits { StampsFit stamps.new (history (O.trace bus.new)) }
         ensures room { O.room bus.old ≤ O.room bus.new + self.old.blocks }
         ensures same { O.same_memory bus.old bus.new }
+        ensures total { length (O.trace bus.new) + O.room bus.new
+            ≡ length (O.trace bus.old) + O.room bus.old }
         ensures blocks { self.new.blocks ≡ self.old.blocks }
+        ensures lines { self.new.lines ≡ self.old.lines }
         ensures key { self.new.key ≡ self.old.key }
     {
         write_zeros(&self.key, self.blocks, &mut self.written, bus, stamps);
@@ -133,6 +136,8 @@ impl StampLog {
         ensures fits { StampsFit stamps.new (history (O.trace bus.new)) }
         ensures room { O.room bus.old ≤ O.room bus.new + 2 }
         ensures same { O.same_memory bus.old bus.new }
+        ensures total { length (O.trace bus.new) + O.room bus.new
+            ≡ length (O.trace bus.old) + O.room bus.old }
         ensures blocks { self.new.blocks ≡ self.old.blocks }
         ensures key { self.new.key ≡ self.old.key }
     {
@@ -204,6 +209,8 @@ impl StampLog {
         ensures fits { StampsFit stamps.new (history (O.trace bus.new)) }
         ensures room { O.room bus.old ≤ O.room bus.new + (self.old.blocks + 34) }
         ensures same { O.same_memory bus.old bus.new }
+        ensures total { length (O.trace bus.new) + O.room bus.new
+            ≡ length (O.trace bus.old) + O.room bus.old }
         ensures blocks { self.new.blocks ≡ self.old.blocks }
         ensures key { self.new.key ≡ self.old.key }
     {
@@ -254,6 +261,8 @@ fn write_zeros<O: OffChip>(
     ensures sum { entry_sum written.new
         ≡ sum_of (value_under key.now) (open_writes (history (O.trace bus.new))) }
     ensures same { O.same_memory bus.old bus.new }
+    ensures total { length (O.trace bus.new) + O.room bus.new
+        ≡ length (O.trace bus.old) + O.room bus.old }
 {
     'numbers: for number in 0..blocks {
         write_back(key, written, bus, stamps, number, &[0; 64]);
@@ -285,6 +294,8 @@ fn write_oldest<O: OffChip>(
     ensures sum { entry_sum written.new
         ≡ sum_of (value_under key.now) (open_writes (history (O.trace bus.new))) }
     ensures same { O.same_memory bus.old bus.new }
+    ensures total { length (O.trace bus.new) + O.room bus.new
+        ≡ length (O.trace bus.old) + O.room bus.old }
 {
     if let Some(number) = lines.take_oldest() {
         write_back(key, written, bus, stamps, number, lines.payload(number));
@@ -313,6 +324,8 @@ fn make_room<O: OffChip>(
     ensures sum { entry_sum written.new
         ≡ sum_of (value_under key.now) (open_writes (history (O.trace bus.new))) }
     ensures same { O.same_memory bus.old bus.new }
+    ensures total { length (O.trace bus.new) + O.room bus.new
+        ≡ length (O.trace bus.old) + O.room bus.old }
 {
     if lines.len() < LOG_LINES {
         return;
@@ -344,6 +357,8 @@ fn write_all<O: OffChip>(
     ensures sum { entry_sum written.new
         ≡ sum_of (value_under key.now) (open_writes (history (O.trace bus.new))) }
     ensures same { O.same_memory bus.old bus.new }
+    ensures total { length (O.trace bus.new) + O.room bus.new
+        ≡ length (O.trace bus.old) + O.room bus.old }
 {
     'lines: for _ in 0..lines.len() {
         write_oldest(key, lines, written, bus, stamps);
@@ -381,6 +396,8 @@ fn read_all<O: OffChip>(
     ensures reading { OnOk result (IsReading (value_under key.now) blocks blocks
         (history (O.trace bus.old)) (history (O.trace bus.new))) }
     ensures same { O.same_memory bus.old bus.new }
+    ensures total { length (O.trace bus.new) + O.room bus.new
+        ≡ length (O.trace bus.old) + O.room bus.old }
 {
     'numbers: for number in 0..blocks {
         let mut block = Block {

@@ -11,6 +11,9 @@ use Rattle.off_chip.specs.declared.event.Event.{Event}
 use Rattle.off_chip.specs.WriteBacks.{block_writes}
 use Rattle.off_chip.proofs.HistoryLemmas.{in_order-history}
 use Rattle.stamp_log.proofs.EventLemmas.{none-read, one-more-read}
+use Rattle.stamp_log.proofs.RoomLemmas.{one-more-total}
+use Rattle.aegis_num.specs.declared.storage.Place.TheVariants.{Log}
+use Rattle.off_chip.specs.declared.event.Event.TheVariants.{BlockRead}
 use Rattle.stamp_log.proofs.log.read_all.Goals as goal
 
 pub add-requires : goal.add-requires
@@ -36,6 +39,7 @@ numbers-init g c = record {
   reading = c.requires.reading;
   order = none-read (g.O.OffChip.trace c.args.bus.now);
   same = search rules;
+  total = refl;
 }
 
 pub numbers-preserved : goal.numbers-preserved
@@ -61,6 +65,7 @@ numbers-preserved g c =
           c.numbers.invariant.order c.read_entry.ensures.event.trace
           (omega (arith, stamp, c.requires.fits.count, ap (λ (t : List Event). block_writes t) (in_order-history (g.O.OffChip.trace c.args.bus.now))));
       same = g.met.O.OffChip.transitive _ _ _ c.numbers.invariant.same c.read_entry.ensures.same;
+      total = one-more-total (BlockRead (Log c.numbers.number) c.read_entry.new.into) _ _ _ _ _ c.read_entry.ensures.event c.numbers.invariant.total;
     }
 
 pub returns-in-Err-clause-future : goal.returns-in-Err-clause-future

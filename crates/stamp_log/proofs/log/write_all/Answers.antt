@@ -1,4 +1,4 @@
-use Rattle.std.proofs.Common.{rules, ℕ, ◌∙◌, arith, subst, length, Option}
+use Rattle.std.proofs.Common.{rules, refl, ℕ, ◌∙◌, arith, subst, length, Option}
 use Rattle.regions.specs.declared.layout.Layout.{Layout}
 use Rattle.off_chip.specs.BusCalls.{TellsLog}
 use Rattle.stamp_log.specs.LogCalls.{WritesBack, MakesRoom}
@@ -20,6 +20,7 @@ lines-init g c = record {
   fits = c.requires.fits;
   sum = c.requires.sum;
   same = search rules;
+  total = refl;
 }
 
 pub lines-preserved : goal.lines-preserved
@@ -45,4 +46,5 @@ lines-preserved g c = record {
   fits = c.write_oldest.ensures.fits;
   sum = c.write_oldest.ensures.sum;
   same = g.met.O.OffChip.transitive _ _ _ c.lines.invariant.same c.write_oldest.ensures.same;
+  total = c.write_oldest.ensures.total ∙ c.lines.invariant.total;
 }

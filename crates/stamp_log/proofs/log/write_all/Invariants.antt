@@ -23,4 +23,5 @@ invariant-lines g l = record {
   fits : StampsFit l.stamps (history (g.O.OffChip.trace l.bus));
   sum : entry_sum l.written ≡ sum_of (value_under l.key) (open_writes (history (g.O.OffChip.trace l.bus)));
   same : g.O.OffChip.same_memory l.fn.bus l.bus;
+  total : length (g.O.OffChip.trace l.bus) + g.O.OffChip.room l.bus ≡ length (g.O.OffChip.trace l.fn.bus) + g.O.OffChip.room l.fn.bus;
 }

@@ -1,4 +1,4 @@
-use Rattle.std.proofs.Common.{rules, ◌+◌, sym, ◌∙◌, subst, arith, Option}
+use Rattle.std.proofs.Common.{rules, ◌+◌, refl, sym, ◌∙◌, subst, arith, Option}
 use Rattle.std.proofs.lemmas.List.{append-nil}
 use Rattle.regions.specs.declared.layout.Layout.{Layout}
 use Rattle.off_chip.specs.BusCalls.{TellsLog}
@@ -6,6 +6,9 @@ use Rattle.stamp_log.specs.LogState.{stamped}
 use Rattle.stamp_log.specs.LogEvents.{zero_payload}
 use Rattle.stamp_log.proofs.StartLemmas.{starting-appended}
 use Rattle.stamp_log.proofs.EventLemmas.{zeros-more}
+use Rattle.stamp_log.proofs.RoomLemmas.{one-more-total}
+use Rattle.aegis_num.specs.declared.storage.Place.TheVariants.{Log}
+use Rattle.off_chip.specs.declared.event.Event.TheVariants.{BlockWrite}
 use Rattle.stamp_log.proofs.log.write_zeros.Goals as goal
 
 pub numbers-init : goal.numbers-init
@@ -19,6 +22,7 @@ numbers-init g c = record {
   events = sym (append-nil (g.O.OffChip.trace c.args.bus.now));
   stamps = omega arith;
   same = search rules;
+  total = refl;
 }
 
 pub numbers-preserved : goal.numbers-preserved
@@ -34,4 +38,5 @@ numbers-preserved g c = record {
       c.numbers.invariant.stamps c.numbers.invariant.events c.write_back.ensures.event.trace;
   stamps = omega (arith, c.numbers.invariant.stamps, c.write_back.ensures.next);
   same = g.met.O.OffChip.transitive _ _ _ c.numbers.invariant.same c.write_back.ensures.same;
+  total = one-more-total (BlockWrite (Log c.numbers.number) (stamped zero_payload (c.numbers.stamps + 1))) _ _ _ _ _ c.write_back.ensures.event c.numbers.invariant.total;
 }
