@@ -197,7 +197,7 @@ module _ {L : Type 0} (old : Sight L) (of : old.tree.veil.layout ≡ old.layout)
       subst (λ (t : List Event). PadsWrites old.tree.veil (payload_at old.lines) old.trace t) (sym same) (pads-none old.tree.veil (payload_at old.lines) old.trace)
 
   stopped-pads : (at : ℕ) (new : Sight L) (reason : Stop) → IsStoppedBy at old new reason → PadsPrivate old new
-  stopped-pads at new reason (IsStoppedBy.tree event below stops) =
+  stopped-pads at new reason (IsStoppedBy.tree event below stops reads) =
       pads-more old.tree.veil (payload_at old.lines) old.trace stops.middle.trace new.trace (BlockRead (Tree stops.n) stops.block)
       (moved-pads _ _ stops.middle stops.moved) (read-pads old.tree.veil (payload_at old.lines) stops.n stops.block) stops.read
   stopped-pads at new reason (IsStoppedBy.log event from fetches) =

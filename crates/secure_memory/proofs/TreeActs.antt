@@ -24,7 +24,7 @@ use Rattle.hash_tree.specs.HashTrees.{nodes_of, scheme_of, state_of}
 use Rattle.hash_tree.specs.Paths.{path_of}
 use Rattle.hash_tree.specs.Standing.{State, SameContents, Stands, contents}
 use Rattle.hash_tree.specs.TreeParts.{SameTree, TreeParts}
-use Rattle.hash_tree.specs.TreeSteps.{Moved, Stops, uncached}
+use Rattle.hash_tree.specs.TreeSteps.{Moved, ReadsFirst, Stops, uncached}
 use Rattle.hash_tree.proofs.CallLemmas.{held-line}
 use Rattle.orbis_core.specs.declared.memory.Stop.TheVariants as stop
 use Rattle.orbis_core.specs.ByteOrder.{words_in}
@@ -210,8 +210,9 @@ tree-reaches at old tree lines stamps trace room told load =
 pub tree-stops : {L : Type 0} (at event : ℕ) (old : Sight L) (tree : TreeParts L Padding) (lines : LineMap) (stamps : ℕ) (trace : List Event) (room : ℕ) (told : Option Layout)
     → old.tree.layout ≡ old.layout → IsInData old.layout at → SameTree old.tree tree → old.room ≤ room + 160 → told ≡ old.told
     → Stops (scheme_of old.tree.layout (veil_of old)) (old.pinned ++ path_of old.tree.layout (data_block_at at)) (state_of old.lines old.tree.root old.trace) (state_of lines tree.root trace) event
+    → ReadsFirst (uncached (held_in old.lines) (path_of old.tree.layout (data_block_at at))) old.trace trace
     → IsStopped at (stop.Tree event) old (with_tree old tree lines stamps trace room told)
-tree-stops at event old tree lines stamps trace room told of inside same few tells stops =
+tree-stops at event old tree lines stamps trace room told of inside same few tells stops reads =
     let pinned : List ℕ = old.pinned ++ path_of old.layout (data_block_at at) in
     let stops_here : Stops (scheme_of old.layout (veil_of old)) pinned (state_of old.lines old.tree.root old.trace) (state_of lines tree.root trace) event =
     subst (λ (l : Layout). Stops (scheme_of l (veil_of old)) (old.pinned ++ path_of l (data_block_at at)) (state_of old.lines old.tree.root old.trace) (state_of lines tree.root trace) event) of stops in
@@ -223,7 +224,8 @@ tree-stops at event old tree lines stamps trace room told of inside same few tel
       moves = All-append-one moves.events (BlockRead (Tree stops_here.n) stops_here.block)
           (all-move pinned (state_of old.lines old.tree.root old.trace) stops_here.middle moves.events moves.each) refl;
       closed = omega (arith, inside.from);
-      by = IsStoppedBy.tree event (tree-below old.layout at inside) stops_here;
+      by = IsStoppedBy.tree event (tree-below old.layout at inside) stops_here
+          (subst (λ (l : Layout). ReadsFirst (uncached (held_in old.lines) (path_of l (data_block_at at))) old.trace trace) of reads);
       parts = record { layout = refl; mode = refl; veil = same.veil; pinned = refl; key = refl; told = tells };
       room = few;
     }

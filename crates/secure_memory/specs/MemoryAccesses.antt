@@ -16,7 +16,7 @@ use Rattle.line_cache.specs.LineMaps.{with_payload}
 use Rattle.hash_tree.specs.AsWritten.{AllAsWritten}
 use Rattle.hash_tree.specs.CachedLines.{held_in}
 use Rattle.hash_tree.specs.Paths.{path_of}
-use Rattle.hash_tree.specs.TreeSteps.{Moved, Stops, uncached}
+use Rattle.hash_tree.specs.TreeSteps.{Moved, ReadsFirst, Stops, uncached}
 use Rattle.stamp_log.specs.LogCalls.{Fetches as LogFetches}
 use Rattle.stamp_log.specs.LogState.{with_line}
 use Rattle.orbis_core.specs.declared.memory.Stop.{Stop}
@@ -82,10 +82,11 @@ pub record Reaches {L : Type 0} (at : ℕ) (old new : Sight L) : Type 0 where
   pub by : IsReachedBy at old new
   pub line : line_in new (place_at old.layout at) ≡ Some payload
 
--- the tree or the log stopped the access, at the read with this number, which is the last event. No access to an open word is stopped
+-- The tree or the log stopped the access, at the read with this number, which is the last event. The tree read of the path of the block the first ones that
+-- had no line. No access to an open word is stopped
 pub data IsStoppedBy {L : Type 0} (at : ℕ) (old new : Sight L) : Stop → Type 0 where
   tree : (event : ℕ) → at < LOG_START → Stops (tree_scheme old) (old.pinned ++ path_of old.layout (data_block_at at)) (tree_state old) (tree_state new) event
-      → IsStoppedBy at old new (stop.Tree event)
+      → ReadsFirst (uncached (held_in old.lines) (path_of old.layout (data_block_at at))) old.trace new.trace → IsStoppedBy at old new (stop.Tree event)
   log : (event : ℕ) → LOG_START ≤ at → LogFetches old.log.blocks (log_block_at at) (Err (record { event = event })) old.trace new.trace old.log.lines new.log.lines
       → IsStoppedBy at old new (stop.Log event)
 

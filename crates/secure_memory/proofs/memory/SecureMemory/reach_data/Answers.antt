@@ -22,4 +22,4 @@ returns-in-Ok-clause-does g c = tree-reaches _ _ _ _ _ _ _ _ (record {
 
 pub returns-in-Err-clause-does : goal.returns-in-Err-clause-does
 returns-in-Err-clause-does g c =
-    tree-stops _ _ _ _ _ _ _ _ _ c.requires.ready.stands.parts.of_tree c.requires.inside c.load.ensures.tree (omega (arith, c.load.ensures.few, c.load.ensures.total)) (sym (g.met.O.OffChip.same_layout _ _ c.load.ensures.same)) c.in-Err.ensures.changed
+    tree-stops _ _ _ _ _ _ _ _ _ c.requires.ready.stands.parts.of_tree c.requires.inside c.load.ensures.tree (omega (arith, c.load.ensures.few, c.load.ensures.total)) (sym (g.met.O.OffChip.same_layout _ _ c.load.ensures.same)) c.in-Err.ensures.changed c.load.ensures.reads
