@@ -1,0 +1,9 @@
+pub mod KnownWords
+pub mod ReadContents
+pub mod BetweenAccesses
+pub mod DataContents
+pub mod StatesAlike
+pub mod AskedOnBus
+pub mod EnteredContents
+pub mod ContentsAtHome
+pub mod StepsSettle
