@@ -1,29 +1,25 @@
 -- A machine goes on from one boundary to the next one.
-use Rattle.std.proofs.Common.{◌≡◌, ℕ, suc, ◌+◌, ◌<◌, ◌≤◌, ◌&&◌, arith, Result, Bool, true, false, cond, leb, List, [], ◌∷◌, ◌++◌, length, length-append, take, Option, Some, None, is_some, refl, sym, ap, ◌∙◌, subst}
+use Rattle.std.proofs.Common.{◌≡◌, ℕ, suc, ◌+◌, ◌≤◌, arith, Bool, true, false, cond, leb, List, [], ◌∷◌, ◌++◌, length, length-append, take, Option, Some, None, is_some, refl, sym, ap, ◌∙◌, subst}
 use Rattle.std.specs.Prelude.{IsTrue, count_by}
-use Rattle.std.specs.Bool.{OnTrue}
 use Rattle.std.specs.List.{list_all, list_any}
 use Rattle.std.proofs.lemmas.Bool.{and_parts, le-leb, or_parts}
 use Rattle.std.proofs.lemmas.List.{append-nil, append_assoc, take-append-le}
 use Rattle.execution.specs.Run.{Next, Goes, Stops, state_of}
-use Rattle.execution.specs.Traffic.{Traffic}
 use Rattle.regions.specs.declared.Layout.{Layout}
 use Rattle.regions.specs.declared.Mode.{Mode}
-use Rattle.regions.specs.declared.addresses.TheConstants.{LOG_START}
 use Rattle.regions.specs.declared.Access.TheVariants.{Fetch}
-use Rattle.regions.specs.Modes.{SecureInstruction, is_secure}
+use Rattle.regions.specs.Modes.{is_secure}
 use Rattle.off_chip.specs.declared.Event.{Event}
 use Rattle.off_chip.specs.declared.Event.TheVariants.{BlockRead, BlockWrite, WordRead, WordWrite, Note}
 use Rattle.off_chip.specs.declared.Mark.TheVariants as marks
 use Rattle.off_chip.specs.declared.Who.TheVariants.{Secure, Untrusted}
 use Rattle.off_chip.specs.Boundaries.{enter_events, is_boundary, is_retire, is_step, is_suspend, retired, since_step, suspensions}
-use Rattle.off_chip.specs.Epochs.{AllSentInQuiet, IsQuiet, SentInQuiet, is_passed}
+use Rattle.off_chip.specs.Epochs.{IsQuiet, SentInQuiet, is_passed}
 use Rattle.off_chip.specs.ExchangedWords.{bytes_sent}
-use Rattle.off_chip.specs.Histories.{History, no_event, ◌◂◌, followed, history, in_order, since, AtEach, Each}
+use Rattle.off_chip.specs.Histories.{History, no_event, ◌◂◌, followed, history, in_order, AtEach, Each}
 use Rattle.off_chip.proofs.HistoryLemmas.{AtEach-at, AtEach-weaker, followed-append, history-append, in_order-history}
 use Rattle.orbis_core.specs.declared.StepEnd.{StepEnd}
 use Rattle.orbis_core.specs.declared.StepEnd.TheVariants as end
-use Rattle.orbis_core.specs.declared.Stop.{Stop}
 use Rattle.orbis_core.specs.declared.Stop.TheVariants as stop
 use Rattle.orbis_core.specs.declared.Why.{Why}
 use Rattle.orbis_core.specs.declared.Why.TheVariants as why
@@ -34,21 +30,21 @@ use Rattle.orbis_core.specs.OwnMemory.{Answers, HasInput, comes_to, is_permitted
 use Rattle.orbis_core.specs.Processor.{Processor}
 use Rattle.orbis_core.specs.Refusals.{word_refusal}
 use Rattle.orbis_core.specs.Rows.{IsNoStop, Machine, Steps}
-use Rattle.stamp_log.specs.declared.LogCause.{LogCause}
 use Rattle.bus_machine.specs.BusAccesses.{Makes, MeetsBus, Sight, is_access_event, is_block_event}
-use Rattle.bus_machine.specs.BusData.{BusData, ChecksOnce, EndsAtLast, EndsSo, GoesOn, GoesOnAtEach, SendsSo, StartsDue, asks_check, at_boundary, before_step, check_due, most_held, needs_check, sent_before_step}
+use Rattle.bus_machine.specs.BusData.{ChecksOnce, EndsAtLast, EndsSo, GoesOn, GoesOnAtEach, SendsSo, StartsDue, at_boundary, before_step, check_due, needs_check, sent_before_step}
 use Rattle.bus_machine.specs.BusMachine.{LoadedProgram, Veil, blocks_taken, bus_machine, bus_step, bus_step_after, word_among}
 use Rattle.bus_machine.specs.BusSteps.{StepsOnBus}
-use Rattle.bus_machine.specs.BusTurns.{GoesOver, StandsAt, reading}
+use Rattle.bus_machine.specs.BusTurns.{reading}
 use Rattle.bus_machine.proofs.BusStepLemmas.{step-on-bus}
 use Rattle.bus_machine.proofs.TurnLemmas.{goes-over}
-use Rattle.aegis_machine.specs.Boundaries.{BoundariesFollow, FitsPhases, GoesOnFuelled, HasWholePhases, IsFuelled, IsWholePhase, SaidAfter, SaidOfRun, StandsAtBoundary, is_suspended, is_untrusted}
+use Rattle.aegis_machine.specs.Boundaries.{BoundariesFollow, FitsPhases, GoesOnFuelled, IsWholePhase, SaidAfter, SaidOfRun, StandsAtBoundary, is_suspended, is_untrusted}
 use Rattle.aegis_machine.specs.FuelTests.{HasFuel}
-use Rattle.aegis_machine.specs.InstructionsDone.{ComesAfter, FailsCheck, FailsSink, IsDone, IsForbidden, IsStoppedSo, makes_check}
-use Rattle.aegis_machine.specs.Ties.{EndsTied, IsTied, RefusedTied, Retires, StandsAfter, StepsTied, end_of, released_by}
-use Rattle.aegis_machine.proofs.AlongLemmas.{AllCalm, blocks-access, calm-access, calm-accesses, calm-count, calm-goes, calm-quiet, calm-sent, calm-since, calm-suspended, calm-untrusted, calm-untrusted-all, count-append, count-cons, each-along, fuelled-along, fuelled-at, longer, longer-along, no-step, off-false, on-true, quiet-before, sent-append, steps-along}
+use Rattle.aegis_machine.specs.InstructionsDone.{ComesAfter, makes_check}
+use Rattle.aegis_machine.specs.Ties.{IsTied, RefusedTied, Retires, StandsAfter, end_of, released_by}
+use Rattle.aegis_machine.proofs.AlongLemmas.{AllCalm, blocks-access, calm-access, calm-accesses, calm-count, calm-goes, calm-quiet, calm-sent, calm-since, calm-suspended, calm-untrusted, calm-untrusted-all, count-append, count-cons, each-along, fuelled-along, fuelled-at, longer, longer-along, no-step, on-true, quiet-before, sent-append, steps-along}
 use Rattle.aegis_machine.proofs.CheckLemmas.{asks-secure, granted, secure_in, needs-due, needs-none, quiet-step}
 use Rattle.aegis_machine.proofs.ComesLemmas.{Comes, IsSteady, comes-counts, each-comes, each-fails, phase-untrusted, suspended_by}
+use Rattle.aegis_machine.proofs.LogEvents.{log-blocks}
 use Rattle.aegis_machine.proofs.TieLemmas.{Reached, both-go-on, comes, reached, same-next, same-start, settled-of, steps-tied, trace-last, trace-new, veil-last, word-left}
 
 -- ---- what holds of single events, whatever is done
@@ -139,7 +135,7 @@ suspensions-by (end.Private true) state none = omega arith
 suspensions-by (end.Private false) state none = omega arith
 suspensions-by ended state none = omega arith
 
-count-none : (test : Event → Bool) (events : List Event) → list_any test events ≡ false → count_by test events ≡ 0
+pub count-none : (test : Event → Bool) (events : List Event) → list_any test events ≡ false → count_by test events ≡ 0
 count-none test [] none = refl
 count-none test (event ∷ events) none =
     let parts = or_parts (test event) (list_any test events) none in
@@ -389,7 +385,7 @@ module _ {M : Type 0} (sight : Sight M) (accesses : Accesses M) (meets : MeetsBu
         ∙ ap (λ (w : ℕ). secure_in old.core w) same
         ∙ asks
 
-    due-secure : (events : List Event) → list_any is_retire events ≡ false → is_some (secure_of_end ended) ≡ true → IsNoStop ended
+    pub due-secure : (events : List Event) → list_any is_retire events ≡ false → is_some (secure_of_end ended) ≡ true → IsNoStop ended
         → blocks_taken (sight.layout old.memory) V events tie.state.memory old.core.pc ≡ blocks_taken (sight.layout old.memory) V on.events tie.state.memory old.core.pc
         → check_due V program (followed older events) ≡ makes_check ended (length held)
     due-secure events goes secured none same =
@@ -799,7 +795,7 @@ boundaries-follow {M} sight accesses meets = record {
       (along-middle sight accesses meets program fuel handed_out held old stands has_fuel new (end.Stopped reason) stopped.steps piece);
   check_fails = λ program fuel handed_out held piece cause old new stands has_fuel fails due.
       let P : List Event → Type 0 = λ es. Makes sight es fails.middle.memory new in
-      said-failed sight accesses meets program fuel handed_out held old stands has_fuel fails.middle fails.ended fails.made.steps fails.check.middle fails.check.blocks due
+      said-failed sight accesses meets program fuel handed_out held old stands has_fuel fails.middle fails.ended fails.made.steps fails.check.middle (log-blocks fails.check.middle fails.check.blocks) due
       fails.made.not_stopped piece new (subst P fails.check.events_are fails.makes);
   sink_fails = λ program fuel handed_out held piece old new stands has_fuel fails.
       said-came sight accesses meets program fuel handed_out held old stands has_fuel fails.middle fails.ended fails.made.steps fails.more fails.kept piece

@@ -1,14 +1,11 @@
 -- Which secure instruction a step did, and whether the step of the bus machine is one in which a check is made.
-use Rattle.std.proofs.Common.{◌≡◌, ℕ, ◌+◌, ◌-◌, ◌<◌, ◌==◌, ◌&&◌, arith, Result, Ok, Err, Bool, true, false, List, [], ◌∷◌, ◌++◌, length, Option, Some, None, is_some, option_map, refl, sym, ap, ◌∙◌, subst}
+use Rattle.std.proofs.Common.{◌≡◌, ℕ, ◌+◌, ◌-◌, ◌==◌, ◌&&◌, arith, Result, Ok, Err, Bool, true, false, length, Option, Some, None, is_some, option_map, refl, sym, ap, ◌∙◌, subst}
 use Rattle.std.specs.Prelude.{IsTrue, is_none, if◌then◌else◌, option_and_then}
-use Rattle.std.proofs.lemmas.List.{append-nil, length-append}
 use Rattle.execution.specs.Run.{Next, Goes, Stops}
 use Rattle.execution.specs.Traffic.{Traffic}
 use Rattle.regions.specs.declared.Layout.{Layout}
-use Rattle.regions.specs.declared.Mode.{Mode}
-use Rattle.regions.specs.declared.Access.TheVariants.{Read, Write, Fetch}
+use Rattle.regions.specs.declared.Access.TheVariants.{Fetch}
 use Rattle.regions.specs.Modes.{SecureInstruction, Enter, Exit, IndexTrap, DivideTrap, Suspend, Resume, PrivateOn, PrivateOff, Release, Input, Check, allowed_in, is_secure}
-use Rattle.off_chip.specs.declared.Event.{Event}
 use Rattle.orbis_word.specs.declared.Instr.{Instr}
 use Rattle.orbis_word.specs.Reading.{instruction_in}
 use Rattle.orbis_core.specs.declared.Effect.{Effect}
@@ -21,10 +18,10 @@ use Rattle.orbis_core.specs.declared.Why.{Why}
 use Rattle.orbis_core.specs.declared.Why.TheVariants as why
 use Rattle.orbis_core.specs.Accesses.{Accesses}
 use Rattle.orbis_core.specs.Effects.{effect_of}
-use Rattle.orbis_core.specs.Ideal.{Ideal, IdealEnd, Outside, Refused, carried, executed, machine_step, permitted, secure_at, secure_by, secured, unless}
+use Rattle.orbis_core.specs.Ideal.{Ideal, IdealEnd, Outside, Refused, carried, executed, machine_step, secure_at, secure_by, secured, unless}
 use Rattle.orbis_core.specs.OwnMemory.{secure_of_end}
 use Rattle.orbis_core.specs.Processor.{Processor}
-use Rattle.orbis_core.specs.Refusals.{byte_refusal, word_refusal}
+use Rattle.orbis_core.specs.Refusals.{word_refusal}
 use Rattle.orbis_core.specs.Rows.{Carries, Executes, GoesOnAfter, IsNoStop, IsStopped, Machine, Steps, end_after}
 use Rattle.orbis_core.specs.Secure.{secure_end, secure_of}
 use Rattle.bus_machine.specs.BusAccesses.{MeetsBus, ReadsBlock, Sight, UnlessRefused}
@@ -34,7 +31,7 @@ use Rattle.aegis_machine.specs.InstructionsDone.{makes_check}
 
 -- ---- the secure instruction of a step
 
-secure-of : (s : SecureInstruction) (core : Processor) → secure_of_end (secure_end s core) ≡ Some s
+pub secure-of : (s : SecureInstruction) (core : Processor) → secure_of_end (secure_end s core) ≡ Some s
 secure-of Enter core = refl
 secure-of Exit core = refl
 secure-of Suspend core = refl

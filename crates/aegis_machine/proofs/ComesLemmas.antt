@@ -1,9 +1,9 @@
 -- What comes after a step: which events, and what of the released bytes is held after them.
-use Rattle.std.proofs.Common.{◌≡◌, ℕ, zero, suc, ◌+◌, ◌<◌, ◌≤◌, ◌==◌, ◌%◌, ◌^◌, arith, Bool, true, false, cond, List, [], ◌∷◌, ◌++◌, length, length-append, Option, Some, None, refl, sym, ap, ◌∙◌, subst}
+use Rattle.std.proofs.Common.{◌≡◌, ℕ, ◌+◌, ◌<◌, ◌==◌, ◌%◌, ◌^◌, arith, Bool, true, false, cond, List, [], ◌∷◌, ◌++◌, length, length-append, refl, sym, ap, ◌∙◌, subst}
 use Rattle.std.specs.Prelude.{count_by}
 use Rattle.std.specs.List.{All, list_all, list_any}
 use Rattle.std.proofs.lemmas.Bool.{and_from}
-use Rattle.std.proofs.lemmas.List.{append-nil, append_assoc}
+use Rattle.std.proofs.lemmas.List.{append-nil}
 use Rattle.std.proofs.lemmas.List.Elements.{All-head, All-tail}
 use Rattle.off_chip.specs.declared.Event.{Event}
 use Rattle.off_chip.specs.declared.Event.TheVariants.{BlockRead, BlockWrite, WordRead, WordWrite, Note}
@@ -16,17 +16,17 @@ use Rattle.off_chip.specs.Histories.{History, ◌◂◌, followed, Each}
 use Rattle.off_chip.proofs.HistoryLemmas.{followed-append}
 use Rattle.orbis_core.specs.declared.StepEnd.{StepEnd}
 use Rattle.orbis_core.specs.declared.StepEnd.TheVariants as end
-use Rattle.orbis_core.specs.declared.Stop.{Stop}
 use Rattle.orbis_core.specs.Rows.{IsNoStop}
 use Rattle.untrusted_run.specs.PhaseLaws.{IsOpenEvent}
 use Rattle.untrusted_run.proofs.LawLemmas.{phases-open}
 use Rattle.bus_machine.specs.BusAccesses.{is_access_event, is_block_event}
 use Rattle.bus_machine.specs.BusData.{most_held}
 use Rattle.aegis_machine.specs.Boundaries.{IsWholePhase, is_suspended, is_untrusted}
-use Rattle.aegis_machine.specs.InstructionsDone.{ComesAfter, IsCheck, IsSuspension, Releases, Settles, Waits, at_once, fills, makes_check, waits}
+use Rattle.aegis_machine.specs.InstructionsDone.{ComesAfter, IsSuspension, Releases, Settles, Waits, at_once, fills, makes_check, waits}
 use Rattle.aegis_machine.specs.Releases.{mark_sent}
 use Rattle.aegis_machine.specs.Ties.{released_by}
-use Rattle.aegis_machine.proofs.AlongLemmas.{AllCalm, IsCalm, blocks-access, calm-accesses, calm-both, calm-count, calm-goes, calm-quiet, calm-sent, calm-suspended, calm-untrusted-all, count-append, count-cons, each-along, not-same, quiet-before, sent-append}
+use Rattle.aegis_machine.proofs.AlongLemmas.{AllCalm, blocks-access, calm-accesses, calm-count, calm-goes, calm-quiet, calm-sent, calm-suspended, calm-untrusted-all, count-append, count-cons, each-along, not-same, quiet-before, sent-append}
+use Rattle.aegis_machine.proofs.LogEvents.{log-blocks}
 use Rattle.aegis_machine.proofs.TieLemmas.{both-go-on}
 
 -- ---- the events of a phase are of untrusted code
@@ -98,7 +98,7 @@ module _ (P : Event → History → Type 0) (after : History) where
         let Q : List Event → Type 0 = λ es. EachIn es in
         let R : History → Type 0 = λ h. Each P h in
         subst Q (sym parts) (subst R (sym (followed-append after checked (mark_sent held)))
-        (each-sent due steady held (followed after checked) (passed-quiet middle) (each-check due is steady middle settles.check.blocks each)))
+        (each-sent due steady held (followed after checked) (passed-quiet middle) (each-check due is steady middle (log-blocks middle settles.check.blocks) each)))
 
     each-released : (byte : ℕ) (held : List ℕ) (events : List Event) (kept piece : List ℕ) → (length held + 1 ≡ most_held → due ≡ true) → Releases after byte held events kept piece → EachIn events
     each-released byte held events kept piece is (at_once quiet none made stays handed) =
@@ -216,7 +216,7 @@ module _ (after : History) (ended : StepEnd) (held : List ℕ) (events : List Ev
       let middle : List Event = settles.check.middle in
       let checked : List Event = Note marks.CheckStart ∷ (middle ++ Note marks.CheckPassed ∷ []) in
       let parts : events ≡ checked ++ mark_sent all = settles.events_are ∙ ap (λ (es : List Event). es ++ mark_sent all) settles.check.events_are in
-      let calm : AllCalm middle = calm-accesses middle (blocks-access middle settles.check.blocks) in
+      let calm : AllCalm middle = calm-accesses middle (blocks-access middle (log-blocks middle settles.check.blocks)) in
       let started : History = Note marks.CheckStart ◂ after in
       let passed : History = Note marks.CheckPassed ◂ followed started middle in
       let history_is : followed after events ≡ followed passed (mark_sent all) =
@@ -307,3 +307,34 @@ comes-counts after end.Input held events kept piece none comes = comes-waits aft
 comes-counts after end.Resume held events kept piece none comes = comes-waits after end.Resume held events kept piece refl refl refl comes.0 comes.1
 comes-counts after end.Enter held events kept piece none comes = comes-waits after end.Enter held events kept piece refl refl refl comes.0 comes.1
 comes-counts after (end.Private on) held events kept piece none comes = comes-waits after (end.Private on) held events kept piece refl refl refl comes.0 comes.1
+
+-- ---- the mark of a piece is the last event
+
+-- events end with the mark of a piece
+pub record EndsSent (events : List Event) (piece : List ℕ) : Type 0 where
+  pub front : List Event
+  pub last : events ≡ front ++ Note (marks.Sent (length piece)) ∷ []
+
+mark-sends : (held : List ℕ) → (held ≡ [] → ⊥) → mark_sent held ≡ Note (marks.Sent (length held)) ∷ []
+mark-sends [] some = absurd (some refl)
+mark-sends (byte ∷ held) some = refl
+
+sends-after : (front : List Event) (held piece : List ℕ) (events : List Event) → events ≡ front ++ mark_sent held → piece ≡ held → (piece ≡ [] → ⊥) → EndsSent events piece
+sends-after front held piece events same is some =
+    let P : List ℕ → Type 0 = λ bytes. (bytes ≡ [] → ⊥) → EndsSent events bytes in
+    subst P (sym is) (λ more. record { front = front; last = same ∙ ap (λ (es : List Event). front ++ es) (mark-sends held more) }) some
+
+settles-sends : (held : List ℕ) (events : List Event) (kept piece : List ℕ) → (piece ≡ [] → ⊥) → Settles held events kept piece → EndsSent events piece
+settles-sends held events kept piece some settles = sends-after settles.checked held piece events settles.events_are settles.handed some
+
+pub comes-sends : (ended : StepEnd) (older : History) (held : List ℕ) (events : List Event) (kept piece : List ℕ) → (piece ≡ [] → ⊥) → ComesAfter ended older held events kept piece
+    → EndsSent events piece
+comes-sends (end.Released byte) older held events kept piece some (at_once quiet none made stays handed) = sends-after [] _ piece events made handed some
+comes-sends (end.Released byte) older held events kept piece some (waits not few made stays handed) = absurd (some handed)
+comes-sends (end.Released byte) older held events kept piece some (fills not full settles) = settles-sends _ events kept piece some settles
+comes-sends end.Check older held events kept piece some comes = settles-sends held events kept piece some comes
+comes-sends end.Exit older held events kept piece some comes = settles-sends held events kept piece some comes
+comes-sends (end.Index place) older held events kept piece some comes = settles-sends held events kept piece some comes
+comes-sends (end.Divide place) older held events kept piece some comes = settles-sends held events kept piece some comes
+comes-sends end.Suspend older held events kept piece some comes = absurd (some comes.1.1)
+comes-sends ended older held events kept piece some comes = absurd (some comes.1.1)

@@ -1,35 +1,37 @@
 -- A machine stands at the boundary where its program was entered.
-use Rattle.std.proofs.Common.{◌≡◌, ℕ, zero, suc, ◌+◌, ◌<◌, ◌≤◌, ◌&&◌, ◌||◌, arith, Bool, true, false, leb, List, [], ◌∷◌, ◌++◌, length, length-append, take, Option, Some, None, refl, sym, ap, ◌∙◌, subst}
+use Rattle.std.proofs.Common.{◌≡◌, ℕ, zero, suc, ◌+◌, ◌<◌, ◌≤◌, ◌&&◌, ◌||◌, arith, Bool, true, false, leb, List, [], ◌∷◌, ◌++◌, length, take, None, refl, sym, ap, ◌∙◌, subst}
 use Rattle.std.specs.Prelude.{count_by, map}
-use Rattle.std.specs.Bool.{OnTrue}
 use Rattle.std.specs.List.{list_all, list_any}
 use Rattle.std.proofs.lemmas.Bool.{and_from, and_parts, leb-true, or_parts}
-use Rattle.std.proofs.lemmas.List.{append-nil, append_assoc}
-use Rattle.execution.specs.Run.{Next, Goes, state_of}
+use Rattle.execution.specs.Run.{Next, state_of}
 use Rattle.regions.specs.declared.Layout.{Layout}
 use Rattle.aegis_num.specs.declared.Place.TheVariants.{Tree, Log}
 use Rattle.off_chip.specs.declared.Event.{Event}
-use Rattle.off_chip.specs.declared.Event.TheVariants.{BlockRead, BlockWrite, WordRead, WordWrite, Note}
+use Rattle.off_chip.specs.declared.Event.TheVariants.{BlockRead, BlockWrite, Note}
 use Rattle.off_chip.specs.declared.Mark.TheVariants as marks
 use Rattle.off_chip.specs.Boundaries.{enter_events, is_boundary, is_retire, is_step, is_suspend, retired, suspensions}
-use Rattle.off_chip.specs.Epochs.{IsQuiet, SentInQuiet}
+use Rattle.off_chip.specs.Epochs.{SentInQuiet}
 use Rattle.off_chip.specs.ExchangedWords.{bytes_sent}
-use Rattle.off_chip.specs.Histories.{History, no_event, ◌◂◌, followed, history, in_order, AtEach, Each}
+use Rattle.off_chip.specs.Histories.{history, History, no_event, ◌◂◌, followed, in_order, AtEach, Each}
 use Rattle.off_chip.proofs.HistoryLemmas.{in_order-history}
-use Rattle.hash_tree.specs.Entering.{BlockMove, reads_block, writes_block, no_move, move_of}
+use Rattle.hash_tree.specs.Entering.{move_of}
 use Rattle.stamp_log.specs.LogEvents.{zero_payload, zeros_written}
 use Rattle.stamp_log.specs.LogState.{stamped}
 use Rattle.secure_memory.proofs.EntryEvents.{AllMoveBlocks, MovesBlock}
 use Rattle.orbis_core.specs.Ideal.{Ideal, IdealEnd, ideal_start}
 use Rattle.bus_machine.specs.BusAccesses.{is_access_event}
-use Rattle.bus_machine.specs.BusData.{ChecksOnce, GoesOn, SendsSo, StartsDue, at_boundary, most_held}
+use Rattle.bus_machine.specs.BusData.{ChecksOnce, GoesOn, SendsSo, StartsDue, at_boundary}
 use Rattle.bus_machine.specs.BusMachine.{LoadedProgram, Veil, bus_machine}
 use Rattle.bus_machine.specs.BusTurns.{StandsAt}
 use Rattle.bus_machine.proofs.TurnLemmas.{starts-at}
-use Rattle.aegis_machine.specs.Boundaries.{FitsPhases, GoesOnFuelled, SaidOfRun, is_suspended}
+use Rattle.aegis_machine.specs.Boundaries.{FitsPhases, GoesOnFuelled, IsOtherProgram, SaidOfRun, is_suspended}
 use Rattle.aegis_machine.specs.FuelTests.{HasFuel}
+use Rattle.aegis_machine.specs.ProgramsRead.{SomeStaticUnfaithful}
+use Rattle.aegis_machine.specs.MachineParts.{RunIsOver}
+use Rattle.aegis_machine.specs.declared.ends.End.TheVariants as ends
 use Rattle.aegis_machine.proofs.AlongLemmas.{AllCalm, calm-access, calm-accesses, calm-count, calm-goes, calm-sent, calm-suspended, count-cons, each-along, not-same, off-false, on-true, one-more, sent-append}
 use Rattle.aegis_machine.proofs.BoundaryLemmas.{checks-other, fits-access, sent-access, starts-access}
+use Rattle.aegis_machine.proofs.ReadLemmas.{entered-expected}
 
 -- ---- the events of entering are accesses
 
@@ -200,4 +202,39 @@ said-nothing veil program fuel =
       waiting = record { each = tt };
       phases = record { each = tt; over = refl };
       fuelled = record { each = tt };
+    }
+
+-- ---- a run that is over with entering, or before it
+
+pub over-without-fuel : (veil : Veil) (program : LoadedProgram) (fuel : ℕ) (trace : List Event) → trace ≡ [] → (HasFuel program.layout fuel 0 → ⊥)
+    → RunIsOver veil program fuel [] (ends.FuelOut 0) trace
+over-without-fuel veil program fuel trace none short =
+    let P : List Event → Type 0 = λ t. RunIsOver veil program fuel [] (ends.FuelOut 0) t in
+    subst P (sym none) (record {
+      said = said-nothing veil program fuel;
+      names = (refl, record { boundary = refl; short = short });
+      reads = λ has. absurd (short has);
+      cause = record { state = ideal_start program.layout program.statics program.entry program.input []; goes = refl };
+      fuelled = tt;
+      expected = record { each = tt };
+    })
+
+pub over-with-other : (veil : Veil) (program : LoadedProgram) (fuel : ℕ) (rest trace : List Event) (read expected : List ℕ) → trace ≡ Note marks.Enter ∷ rest → list_all is_access_event rest ≡ true
+    → HasFuel program.layout fuel 0 → IsOtherProgram program read expected trace → SomeStaticUnfaithful program.layout program.statics trace
+    → RunIsOver veil program fuel [] (ends.AbortProgram read expected) trace
+over-with-other veil program fuel rest trace read expected is access has other unfaithful =
+    let long : length (Note marks.Enter ∷ rest) ≡ enter_events program.layout = ap (λ (t : List Event). length t) (sym is) ∙ other.over in
+    let N : List Event → Type 0 = λ t. SaidOfRun veil program fuel [] None (history t) in
+    record {
+      said = subst N (sym is) (said-entered veil program fuel rest access long has);
+      names = other;
+      reads = record {
+        fuelled = has;
+        nothing = refl;
+        unsent = ap (λ (t : List Event). bytes_sent t) is ∙ sent-entered veil program fuel rest access long has;
+        unfaithful = unfaithful;
+      };
+      cause = tt;
+      fuelled = tt;
+      expected = entered-expected program.layout trace (omega (arith, other.over));
     }

@@ -4,7 +4,7 @@ use Rattle.std.specs.Prelude.{◌&&◌, replicate}
 use Rattle.std.specs.List.{All, list_all}
 use Rattle.std.proofs.lemmas.List.Elements.{All-head}
 use Rattle.aegis_num.specs.declared.Block.{Block}
-use Rattle.aegis_num.specs.declared.Place.TheVariants.{Log}
+use Rattle.aegis_num.specs.declared.Place.TheVariants.{Log, Tree}
 use Rattle.off_chip.specs.declared.Event.{Event}
 use Rattle.off_chip.specs.declared.Event.TheVariants.{BlockRead, BlockWrite, Note, WordRead, WordWrite}
 use Rattle.off_chip.specs.declared.Mark.TheVariants.{CheckStart, CheckPassed, Drop, Enter, Resume, Retire, Sent, Suspend}
@@ -36,8 +36,9 @@ use Rattle.bus_machine.specs.BusAccesses.{Sight, is_block_event}
 use Rattle.aegis_machine.specs.declared.instructions.Done.{Done}
 use Rattle.aegis_machine.specs.declared.instructions.Done.TheVariants as done
 use Rattle.aegis_machine.specs.declared.instructions.Fault.TheVariants as fault
-use Rattle.aegis_machine.specs.InstructionsDone.{ComesAfter, DoesSo, HandsOut, IsCheck, IsFailedCheck, IsSuspension, Releases, Settles, makes_check}
+use Rattle.aegis_machine.specs.InstructionsDone.{ComesAfter, DoesSo, HandsOut, IsCheck, IsFailedCheck, IsSuspension, Releases, Settles, is_log_event, makes_check}
 use Rattle.aegis_machine.specs.Ties.{end_of}
+use Rattle.aegis_machine.proofs.LogEvents.{log-blocks}
 
 -- a block of the log, and a read and a write of it
 abbrev block : Block
@@ -87,7 +88,7 @@ rest_of [] = []
 rest_of (event ∷ events) = events
 
 check-tested : (events : List Event) → IsCheck events → ends_check (rest_of events) ≡ true
-check-tested events check = ap (λ (l : List Event). ends_check (rest_of l)) check.events_are ∙ ends-tested check.middle check.blocks
+check-tested events check = ap (λ (l : List Event). ends_check (rest_of l)) check.events_are ∙ ends-tested check.middle (log-blocks check.middle check.blocks)
 
 -- it does not pass, a word is read in it, or a second mark of a check stands in it
 not-passed : IsCheck (Note CheckStart ∷ write ∷ read ∷ []) → ⊥
@@ -110,8 +111,18 @@ nothing-checked check = let e = check.events_are in cc
 
 passes-after-all : IsFailedCheck (Note CheckStart ∷ read ∷ Note CheckPassed ∷ []) → ⊥
 passes-after-all check =
-    let e : list_all is_block_event (read ∷ Note CheckPassed ∷ []) ≡ true =
-    ap (λ (l : List Event). list_all is_block_event (rest_of l)) check.events_are ∙ check.blocks in cc
+    let e : list_all is_log_event (read ∷ Note CheckPassed ∷ []) ≡ true =
+    ap (λ (l : List Event). list_all is_log_event (rest_of l)) check.events_are ∙ check.blocks in cc
+
+-- it reads no block of the tree
+log_events : (is_log_event read ≡ true) × (is_log_event write ≡ true) × (is_log_event (BlockRead (Tree 0) block) ≡ false) × (is_log_event (BlockWrite (Tree 0) block) ≡ false)
+    × (is_log_event (Note (Drop (Log 0))) ≡ false) × (is_log_event (WordRead Secure 0x8000 7) ≡ false) × (is_log_event (Note CheckPassed) ≡ false)
+log_events = (refl, refl, refl, refl, refl, refl, refl)
+
+fails-on-tree : IsFailedCheck (Note CheckStart ∷ BlockRead (Tree 0) block ∷ []) → ⊥
+fails-on-tree check =
+    let e : list_all is_log_event (BlockRead (Tree 0) block ∷ []) ≡ true =
+    ap (λ (l : List Event). list_all is_log_event (rest_of l)) check.events_are ∙ check.blocks in cc
 
 fails-unstarted : IsFailedCheck (read ∷ []) → ⊥
 fails-unstarted check = let e = check.events_are in cc
@@ -319,7 +330,7 @@ hands-none : HandsOut (done.Fault (fault.Log (Future 7))) (Some (1 ∷ [])) (Som
 hands-none = (refl, refl, refl)
 
 hands-front : HandsOut (done.Fault fault.Sink) (Some (1 ∷ [])) (Some (1 ∷ 2 ∷ [])) 4 5 (Some 10) (Some 10) (2 ∷ 3 ∷ [])
-hands-front = ((1, refl), omega arith)
+hands-front = ((1, refl), omega arith, λ none. cc)
 
 -- nothing is dropped, no fault is counted where the sink did not fail, and one is where it did
 piece-dropped : HandsOut done.Goes (Some (1 ∷ [])) (Some (1 ∷ [])) 4 4 None None (2 ∷ []) → ⊥
@@ -330,6 +341,10 @@ fault-counted hands = let e : 5 ≡ 4 = hands.1 in absurd (omega (arith, e))
 
 fault-uncounted : HandsOut (done.Fault fault.Sink) (Some []) (Some []) 4 4 None None (2 ∷ []) → ⊥
 fault-uncounted hands = absurd (omega (arith, hands.1))
+
+-- and it does not where there is no piece
+fault-unsent : HandsOut (done.Fault fault.Sink) (Some []) (Some []) 4 5 None None [] → ⊥
+fault-unsent hands = hands.2 refl
 
 -- ---- a whole instruction, over a memory that is its trace and gives one word to each fetch
 

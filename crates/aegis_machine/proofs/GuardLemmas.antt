@@ -52,6 +52,7 @@ use Rattle.aegis_machine.specs.InstructionsDone.{ComesAfter, DoesSo, HandsOut, I
 use Rattle.aegis_machine.specs.Outcomes.{LeavesTied, TakesMore, done_of, done_stopped}
 use Rattle.aegis_machine.specs.Releases.{mark_sent}
 use Rattle.aegis_machine.specs.Ties.{IsTied, Retires, StandsAfter, end_of}
+use Rattle.aegis_machine.proofs.LogEvents.{log-blocks}
 use Rattle.aegis_machine.proofs.TieLemmas.{steps-tied}
 
 -- ---- events that follow one another
@@ -138,7 +139,7 @@ sent-goes-on (byte ∷ held) = refl
 check-goes-on : (events : List Event) → IsCheck events → list_any is_retire events ≡ false
 check-goes-on events check =
     same-go-on events (Note mark.CheckStart ∷ (check.middle ++ Note mark.CheckPassed ∷ [])) check.events_are
-    (both-go-on check.middle (Note mark.CheckPassed ∷ []) (blocks-go-on check.middle check.blocks) refl)
+    (both-go-on check.middle (Note mark.CheckPassed ∷ []) (blocks-go-on check.middle (log-blocks check.middle check.blocks)) refl)
 
 settles-go-on : (held : List ℕ) (events : List Event) (kept piece : List ℕ) → Settles held events kept piece → list_any is_retire events ≡ false
 settles-go-on held events kept piece settles =

@@ -1,6 +1,6 @@
 -- What the other calls of a secure memory do to it, as the machine sees it.
-use Rattle.std.proofs.Common.{◌≡◌, ℕ, suc, ◌+◌, ◌-◌, ◌*◌, ◌/◌, ◌<◌, ◌≤◌, length, Bool, true, false, Option, Some, None, Result, Ok, Err, List, [], ◌∷◌, ◌++◌, refl, sym, ap, ◌∙◌, subst, append-nil, append_assoc, arith}
-use Rattle.std.specs.Prelude.{IfErr, IsTrue, OnOk, ◌&&◌, if◌then◌else◌, nat_le, nat_lt, slice_index, slice_index_or}
+use Rattle.std.proofs.Common.{◌≡◌, ℕ, suc, ◌+◌, ◌-◌, ◌*◌, ◌<◌, ◌≤◌, length, Bool, true, false, Option, Some, None, Result, Ok, Err, List, [], ◌∷◌, ◌++◌, refl, sym, ap, ◌∙◌, subst, append-nil, append_assoc, arith}
+use Rattle.std.specs.Prelude.{IfErr, IsTrue, OnOk, if◌then◌else◌, nat_le, nat_lt, slice_index, slice_index_or}
 use Rattle.std.specs.List.{All, list_all}
 use Rattle.std.proofs.lemmas.Bool.{and_from, and_parts}
 use Rattle.std.proofs.lemmas.Bool.Decides.{nat_tests}
@@ -22,7 +22,7 @@ use Rattle.off_chip.specs.declared.event.Event.{Event}
 use Rattle.off_chip.specs.declared.event.Event.TheVariants.{BlockRead, BlockWrite, Note, WordRead, WordWrite}
 use Rattle.off_chip.specs.declared.event.Mark.{Mark}
 use Rattle.off_chip.specs.declared.event.Mark.TheVariants as mark
-use Rattle.orbis_core.specs.ByteOrder.{log_block_start, with_block, words_in}
+use Rattle.orbis_core.specs.ByteOrder.{words_in}
 use Rattle.line_cache.specs.LineMaps.{HoldParents, LineMap, payload_at}
 use Rattle.hash_tree.specs.HashTrees.{nodes_of}
 use Rattle.hash_tree.specs.TreeParts.{TreeParts}
@@ -41,11 +41,12 @@ use Rattle.secure_memory.specs.OutsideEvents.{is_outside}
 use Rattle.secure_memory.specs.PrivatePads.{Padding, hidden_payload}
 use Rattle.secure_memory.proofs.OpenActs.{with_trace}
 use Rattle.secure_memory.proofs.OutsideProofs.{outside-law}
-use Rattle.bus_machine.specs.BusAccesses.{is_block_event}
 use Rattle.bus_machine.specs.BusMachine.{Veil, blocks_taken, memory_after}
 use Rattle.bus_machine.proofs.SegmentLemmas.{taken-append}
 use Rattle.aegis_machine.specs.Guards.{Leads, LeadsOn, MissesCheck, PassesCheck, Suspends, is_own_mark}
+use Rattle.aegis_machine.specs.InstructionsDone.{is_log_event}
 use Rattle.aegis_machine.specs.SecureSights.{bus_sight}
+use Rattle.aegis_machine.proofs.LogEvents.{logs-stay}
 
 -- ---- events at no place of a block
 
@@ -108,7 +109,7 @@ open-outside (Note mark.CheckPassed) is = absurd is
 open-outside (Note mark.Suspend) is = absurd is
 open-outside (Note mark.Resume) is = absurd is
 
-opens-outside : (events : List Event) → All IsOpenEvent events → list_all is_outside events ≡ true
+pub opens-outside : (events : List Event) → All IsOpenEvent events → list_all is_outside events ≡ true
 opens-outside [] opens = refl
 opens-outside (event ∷ events) opens =
     and_from (is_outside event) (list_all is_outside events) (open-outside event (All-head IsOpenEvent event events opens)) (opens-outside events (All-tail IsOpenEvent event events opens))
@@ -196,26 +197,20 @@ module _ {L M : Type 0} (seen : M → SecureSight L) where
 
 -- ---- the events of a check
 
--- a block of the log is read or written
-abbrev is_log_move : Event → Bool
-is_log_move (BlockRead (Log n) block) = true
-is_log_move (BlockWrite (Log n) block) = true
-is_log_move event = false
-
 record GrowsByLog (before after : List Event) : Type 0 where
   events : List Event
   appended : after ≡ before ++ events
-  each : list_all is_log_move events ≡ true
+  each : list_all is_log_event events ≡ true
 
 grows-none : (before : List Event) → GrowsByLog before before
 grows-none before = record { events = []; appended = sym (append-nil before); each = refl }
 
-grows-one : (first before after : List Event) (event : Event) → GrowsByLog first before → is_log_move event ≡ true → after ≡ before ++ event ∷ [] → GrowsByLog first after
+grows-one : (first before after : List Event) (event : Event) → GrowsByLog first before → is_log_event event ≡ true → after ≡ before ++ event ∷ [] → GrowsByLog first after
 grows-one first before after event grows is appended = record {
   events = grows.events ++ event ∷ [];
   appended = appended ∙ ap (λ (t : List Event). t ++ event ∷ []) grows.appended ∙ append_assoc first grows.events (event ∷ []);
-  each = list_all-append is_log_move grows.events (event ∷ [])
-      ∙ and_from (list_all is_log_move grows.events) (list_all is_log_move (event ∷ [])) grows.each (and_from (is_log_move event) true is refl);
+  each = list_all-append is_log_event grows.events (event ∷ [])
+      ∙ and_from (list_all is_log_event grows.events) (list_all is_log_event (event ∷ [])) grows.each (and_from (is_log_event event) true is refl);
 }
 
 room-grows : (blocks : ℕ) (first before after : List Event) (old new : LogLines) → MakesRoom blocks before after old new → GrowsByLog first before → GrowsByLog first after
@@ -263,43 +258,6 @@ check-starts : (value : LogEntry → ℕ) (blocks : ℕ) (result : Result (Unit 
 check-starts value blocks result before after old new runs =
     writes-grow blocks (before ++ Note mark.CheckStart ∷ []) (before ++ Note mark.CheckStart ∷ []) runs.middle old new runs.writes (grows-none (before ++ Note mark.CheckStart ∷ []))
 
--- these events are of blocks, and change no word below the log
-move-is-block : (event : Event) → is_log_move event ≡ true → is_block_event event ≡ true
-move-is-block (BlockRead at block) is = refl
-move-is-block (BlockWrite at block) is = refl
-move-is-block (WordRead by at word) is = cc
-move-is-block (WordWrite by at word) is = cc
-move-is-block (Note mark) is = cc
-
-moves-are-blocks : (events : List Event) → list_all is_log_move events ≡ true → list_all is_block_event events ≡ true
-moves-are-blocks [] each = refl
-moves-are-blocks (event ∷ events) each =
-    let parts = and_parts (is_log_move event) (list_all is_log_move events) each in
-    and_from (is_block_event event) (list_all is_block_event events) (move-is-block event parts.0) (moves-are-blocks events parts.1)
-
-below-block : (memory : ℕ → ℕ) (n at : ℕ) (payload : List ℕ) → at < LOG_START → with_block memory (log_block_start n) payload at ≡ memory at
-below-block memory n at payload below =
-    let outside : (nat_le (log_block_start n) at && nat_lt at (log_block_start n + 64)) ≡ false = grind (arith, nat_tests) in
-    ap (λ (b : Bool). if b then slice_index (words_in payload) ((at - log_block_start n) / 4) else memory at) outside
-
-log-below : (b : Bool) (memory : ℕ → ℕ) (n at : ℕ) (payload : List ℕ) → at < LOG_START → (if b then with_block memory (log_block_start n) payload else memory) at ≡ memory at
-log-below true memory n at payload below = below-block memory n at payload below
-log-below false memory n at payload below = refl
-
-log-stays : (layout : Layout) (veil : Veil) (event : Event) (memory : ℕ → ℕ) (at : ℕ) → is_log_move event ≡ true → at < LOG_START → memory_after layout veil event memory at ≡ memory at
-log-stays layout veil (BlockRead (Log n) block) memory at is below = log-below (nat_lt n layout.log) memory n at block.payload below
-log-stays layout veil (BlockRead (Tree n) block) memory at is below = cc
-log-stays layout veil (BlockWrite place block) memory at is below = refl
-log-stays layout veil (WordRead by from word) memory at is below = refl
-log-stays layout veil (WordWrite by from word) memory at is below = refl
-log-stays layout veil (Note mark) memory at is below = refl
-
-logs-stay : (layout : Layout) (veil : Veil) (events : List Event) (memory : ℕ → ℕ) (at : ℕ) → list_all is_log_move events ≡ true → at < LOG_START → blocks_taken layout veil events memory at ≡ memory at
-logs-stay layout veil [] memory at each below = refl
-logs-stay layout veil (event ∷ events) memory at each below =
-    let parts = and_parts (is_log_move event) (list_all is_log_move events) each in
-    logs-stay layout veil events (memory_after layout veil event memory) at parts.1 below ∙ log-stays layout veil event memory at parts.0 below
-
 no-line : (lines : LogLines) (n : ℕ) (payload : List ℕ) → HoldsNothing lines → line_of lines n ≡ Some payload → ⊥
 no-line lines n payload nothing line =
     let none : line_of lines n ≡ None = ap (λ (b : Bool). if b then Some (slice_index_or lines.payloads n []) else None) (nothing.nothing n) in
@@ -317,7 +275,7 @@ tree-words layout n k is less =
 abbrev checked : List Event → List Event
 checked middle = Note mark.CheckStart ∷ (middle ++ Note mark.CheckPassed ∷ [])
 
-checked-stay : (layout : Layout) (veil : Veil) (middle : List Event) (memory : ℕ → ℕ) (at : ℕ) → list_all is_log_move middle ≡ true → at < LOG_START
+checked-stay : (layout : Layout) (veil : Veil) (middle : List Event) (memory : ℕ → ℕ) (at : ℕ) → list_all is_log_event middle ≡ true → at < LOG_START
     → blocks_taken layout veil (checked middle) memory at ≡ memory at
 checked-stay layout veil middle memory at each below =
     ap (λ (m : ℕ → ℕ). m at) (taken-append layout veil middle (Note mark.CheckPassed ∷ []) memory) ∙ logs-stay layout veil middle memory at each below
@@ -339,7 +297,7 @@ module _ {L M : Type 0} (seen : M → SecureSight L) where
       ∙ agrees.line (Tree n) payload is (subst (λ (l : LineMap). payload_at l n ≡ Some payload) lines line) k less
   check-agrees events old new stay lines nothing memory agrees (Log n) payload is line k less = absurd (no-line (seen new).log.lines n payload nothing line)
 
-  check-leads : (middle : List Event) (old new : M) → list_all is_log_move middle ≡ true → (seen new).trace ≡ (seen old).trace ++ checked middle → HoldsNothing (seen new).log.lines
+  check-leads : (middle : List Event) (old new : M) → list_all is_log_event middle ≡ true → (seen new).trace ≡ (seen old).trace ++ checked middle → HoldsNothing (seen new).log.lines
       → (seen new).layout ≡ (seen old).layout → (seen new).tree ≡ (seen old).tree → (seen new).lines ≡ (seen old).lines → Leads (bus_sight seen) (checked middle) old new
   check-leads middle old new each appended nothing layout tree lines = record {
     trace = appended;
@@ -366,7 +324,7 @@ module _ {L M : Type 0} (seen : M → SecureSight L) where
       passed-trace passes.grows.events (seen old).trace passes.compared (seen new).trace passes.grows.appended passes.last in
       record {
         events = checked passes.grows.events;
-        check = record { middle = passes.grows.events; events_are = refl; blocks = moves-are-blocks passes.grows.events passes.grows.each };
+        check = record { middle = passes.grows.events; events_are = refl; blocks = passes.grows.each };
         leads_on = record { leads = check-leads passes.grows.events old new passes.grows.each appended runs.nothing layout tree lines; mode = mode };
       }
 
@@ -380,7 +338,7 @@ module _ {L M : Type 0} (seen : M → SecureSight L) where
       let grows = ends-miss value blocks ((seen old).trace ++ Note mark.CheckStart ∷ []) runs.middle (seen new).trace cause runs.ends starts in
       record {
         events = Note mark.CheckStart ∷ grows.events;
-        check = record { middle = grows.events; events_are = refl; blocks = moves-are-blocks grows.events grows.each };
+        check = record { middle = grows.events; events_are = refl; blocks = grows.each };
         makes = record {
           trace = grows.appended ∙ started grows.events (seen old).trace;
           layout = layout;

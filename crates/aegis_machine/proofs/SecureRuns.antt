@@ -1,7 +1,7 @@
 -- Runs over a secure memory: what it keeps, and what its calls are told to do.
 use Rattle.std.proofs.Common.{◌≡◌, ℕ, zero, suc, ◌+◌, ◌<◌, ◌≤◌, arith, Bool, true, false, List, [], ◌∷◌, ◌++◌, length, drop, replicate, nat_cmp, option_map, Option, Some, None, refl, sym, ap, ◌∙◌, subst}
-use Rattle.std.specs.Prelude.{◌^◌, IfOk, IsTrue, Result, Ok, Err, slice_index, slice_index_or, if◌then◌else◌}
-use Rattle.std.specs.FinMap.{empty, get-empty}
+use Rattle.std.specs.Prelude.{◌^◌, IfErr, IfOk, IsTrue, Result, Ok, Err, slice_index, slice_index_or, if◌then◌else◌}
+use Rattle.std.specs.FinMap.{get-empty}
 use Rattle.line_cache.specs.declared.lines.Line.{Line}
 use Rattle.aegis_num.specs.declared.Place.{Place}
 use Rattle.aegis_num.specs.declared.Place.TheVariants.{Tree, Log}
@@ -13,9 +13,8 @@ use Rattle.stamp_log.specs.StandsOn.{IsNew}
 use Rattle.secure_memory.specs.declared.Parts.{Parts}
 use Rattle.secure_memory.specs.PrivatePads.{Padding, hidden_payload}
 use Rattle.orbis_core.specs.declared.Port.{Port}
-use Rattle.orbis_core.specs.Ideal.{entry_address, ideal_start, static_memory}
-use Rattle.orbis_core.specs.OwnMemory.{HasInput}
-use Rattle.orbis_core.specs.Processor.{Processor, reset_core}
+use Rattle.orbis_core.specs.Ideal.{ideal_start, static_memory}
+use Rattle.orbis_core.specs.Processor.{Processor}
 use Rattle.orbis_core.specs.Rows.{Machine}
 use Rattle.image_file.specs.declared.Image.{Image}
 use Rattle.image_file.specs.ImageTable.{static_bytes}
@@ -28,22 +27,39 @@ use Rattle.bus_machine.specs.BusData.{most_held}
 use Rattle.bus_machine.specs.BusMachine.{LoadedProgram, Veil}
 use Rattle.bus_machine.specs.BusTurns.{StandsAt}
 use Rattle.secure_memory.specs.BlockWords.{AreWordsAt, is_memory_block, start_at}
+use Rattle.aegis_machine.specs.Causes.{EndsByCause, ReadsExpected}
 use Rattle.aegis_machine.specs.FuelTests.{HasFuel}
 use Rattle.aegis_machine.specs.declared.machine.Machine.{Machine as TurnMachine}
-use Rattle.aegis_machine.specs.Boundaries.{SaidOfRun, StandsAtBoundary}
-use Rattle.aegis_machine.specs.MachineParts.{AreBytes, EndsTurn, EntersSo, FitsMachine, IsRunning, IsUnentered, LeadsTo, RunIsOver, StandsWith, TakesRest, parked, program_of, seen_with, unentered, veil_with}
+use Rattle.aegis_machine.specs.Boundaries.{SaidOfRun, StandsAtBoundary, blocks_in, entered_digest}
+use Rattle.block_hash.specs.BlockStrings.{program_digest}
+use Rattle.off_chip.specs.OffChipBytes.{static_blocks}
+use Rattle.aegis_machine.specs.MachineParts.{AreBytes, CarriesSums, EndsTurn, EntersSo, FitsMachine, IsRunning, IsUnentered, LeadsTo, RunIsOver, StandsWith, TakesRest, end_by, parked, program_of, seen_with, unentered, veil_with}
+use Rattle.aegis_machine.proofs.CauseLemmas.{EndsCheck, Tells}
+use Rattle.aegis_machine.proofs.ReadLemmas.{entered-expected}
+use Rattle.aegis_machine.proofs.StopLemmas.{log-abort, step-keeps, tree-abort}
 use Rattle.aegis_machine.proofs.EnteringLemmas.{retired-entered, said-entered, sent-entered, stands-entered}
 use Rattle.regions.specs.declared.Layout.{Layout}
 use Rattle.off_chip.specs.declared.Event.{Event}
 use Rattle.line_cache.specs.LineMaps.{LineMap, payload_at}
 use Rattle.orbis_core.specs.Accesses.{Accesses}
 use Rattle.stamp_log.specs.declared.LogCause.{LogCause}
+use Rattle.stamp_log.specs.declared.LogCause.TheVariants.{Future, Sums}
 use Rattle.stamp_log.specs.LogState.{value_under}
-use Rattle.stamp_log.specs.OfflineCheck.{IsCause}
+use Rattle.stamp_log.specs.OfflineCheck.{IsCause, SumsDiffer}
 use Rattle.secure_memory.specs.declared.SecureMemory.{SecureMemory}
 use Rattle.secure_memory.specs.MemoryAccesses.{secure_accesses}
-use Rattle.secure_memory.specs.MemorySights.{Agrees, IsReady, Sight as SecureSight, line_in, sight_of}
+use Rattle.secure_memory.specs.MemorySights.{Agrees, Sight as SecureSight, line_in, sight_of}
 use Rattle.secure_memory.specs.MemoryStands.{MemoryStands}
+use Rattle.memory_trace.specs.SoundTraces.{IsSound}
+use Rattle.aegis_machine.specs.Watched.{IsWatched}
+use Rattle.aegis_machine.specs.declared.ends.End.{End}
+use Rattle.aegis_machine.specs.declared.ends.End.TheVariants.{FuelOut}
+use Rattle.aegis_machine.specs.declared.ends.End.TheVariants as ends
+use Rattle.aegis_machine.specs.declared.instructions.Done.{Done}
+use Rattle.aegis_machine.specs.declared.instructions.Done.TheVariants as done
+use Rattle.aegis_machine.specs.declared.instructions.Fault.TheVariants as fault
+use Rattle.aegis_machine.specs.InstructionsDone.{DoesSo}
+use Rattle.aegis_num.specs.declared.Key.{Key}
 use Rattle.aegis_machine.specs.declared.turns.Turn.{Turn}
 use Rattle.aegis_machine.specs.declared.turns.Turn.TheVariants.{Parked, Over}
 use Rattle.bus_machine.specs.BusAccesses.{MeetsBus, Sight}
@@ -75,7 +91,41 @@ module _ {O L : Type 0} (lines : L → LineMap) (trace : O → List Event) (room
   meets_on = secure_meets seen keeps_on
 
   abbrev pub caused_on : LogCause → Secure → Type 0
-  caused_on cause memory = IsCause (value_under memory.log.key) (trace memory.lent.now) cause
+  caused_on cause memory = IsCause (value_under memory.log.key) (trace memory.lent.now) cause × EndsByCause memory.layout.log (trace memory.lent.now) cause
+
+  ends_on : (cause : LogCause) (memory : Secure) → caused_on cause memory → EndsCheck memory.layout.log (trace memory.lent.now) cause
+  ends_on (Future event) memory caused = caused.0
+  ends_on (Sums read written) memory caused = caused.1
+
+  pub tells_on : Tells sight_on accesses_on caused_on
+  tells_on = record {
+    ends = ends_on;
+    keeps = λ layout old new ended is secure not step. step-keeps seen keeps_on layout old new ended is secure not step;
+    tree = λ program old new event tie expected step. tree-abort seen keeps_on program old new tie expected event step;
+    log = λ program old new event tie step. log-abort seen keeps_on program old new tie event step;
+  }
+
+  -- the sums that an instruction ended with
+  pub carries-on : (key : Key) (answer : Done) (end : End) (count : ℕ) (held kept piece : List ℕ) (now new : Machine Secure) → new.memory.log.key ≡ key → end_by answer count ≡ Some end
+      → DoesSo sight_on accesses_on caused_on answer held kept piece now new → CarriesSums key (Over end) (trace new.memory.lent.now)
+  carries-on key answer end count held kept piece now new same = by answer
+    where
+      at : (other : End) → other ≡ end → CarriesSums key (Over other) (trace new.memory.lent.now) → CarriesSums key (Over end) (trace new.memory.lent.now)
+      at other is carries = let P : End → Type 0 = λ e. CarriesSums key (Over e) (trace new.memory.lent.now) in subst P is carries
+
+      by : (a : Done) → end_by a count ≡ Some end → DoesSo sight_on accesses_on caused_on a held kept piece now new → CarriesSums key (Over end) (trace new.memory.lent.now)
+      by done.Goes is does = cc
+      by done.Ended is does = at ends.Ended (let e : ends.Ended ≡ end = cc in e) tt
+      by (done.Index place) is does = at (ends.Index place) (let e : ends.Index place ≡ end = cc in e) tt
+      by (done.Divide place) is does = at (ends.Divide place) (let e : ends.Divide place ≡ end = cc in e) tt
+      by (done.Refused reason) is does = at (ends.Refused reason count) (let e : ends.Refused reason count ≡ end = cc in e) tt
+      by (done.Tree event) is does = at (ends.AbortTree event count) (let e : ends.AbortTree event count ≡ end = cc in e) tt
+      by (done.Log event) is does = at (ends.AbortLog (Future event) count) (let e : ends.AbortLog (Future event) count ≡ end = cc in e) tt
+      by (done.Fault (fault.Log (Future event))) is does = at (ends.AbortLog (Future event) count) (let e : ends.AbortLog (Future event) count ≡ end = cc in e) tt
+      by (done.Fault (fault.Log (Sums read written))) is does =
+          let P : Key → Type 0 = λ k. SumsDiffer (value_under k) (trace new.memory.lent.now) read written in
+          at (ends.AbortLog (Sums read written) count) (let e : ends.AbortLog (Sums read written) count ≡ end = cc in e) (subst P same does.0.caused.0)
+      by (done.Fault fault.Sink) is does = at ends.WriteFault (let e : ends.WriteFault ≡ end = cc in e) tt
 
 -- ---- a machine on a bus, and with the parts of its memory between turns
 
@@ -207,7 +257,7 @@ no-log-line log lines n new same =
     ap (λ (b : Bool). if b then Some (slice_index_or lines.payloads n []) else None) held
 
 module _ {L : Type 0} (lines : L → LineMap) (image : Image) (input : List ℕ) (veil : Veil) (old_trace trace : List Event) (handed_out : List ℕ) (old new : Parts L) (machine : TurnMachine L)
-    (bytes : AreBytes input) (unentered : IsUnentered lines image veil old_trace handed_out old machine) (enters : EntersSo lines old.layout machine.fuel old new trace) where
+    (bytes : AreBytes input) (unentered : IsUnentered lines image veil old_trace handed_out old machine) (enters : EntersSo lines old.layout (static_bytes image) machine.fuel old new trace) where
   abbrev loaded : LoadedProgram
   loaded = program_of image input
 
@@ -242,6 +292,7 @@ module _ {L : Type 0} (lines : L → LineMap) (image : Image) (input : List ℕ)
       let G : List ℕ → Type 0 = λ bytes. SaidOfRun V loaded machine.fuel bytes None (history trace) in
       record {
         stands = enters.stands;
+        sound = enters.sound;
         same_veil = ap (λ (p : Padding). hidden_payload p) enters.tree.veil ∙ unentered.same_veil;
         boundary = λ port input_is next_is. record {
           tied = record {
@@ -267,6 +318,8 @@ module _ {L : Type 0} (lines : L → LineMap) (image : Image) (input : List ℕ)
         layout = layout-image;
         within = omega (arith, unentered.next);
         counted = unentered.count ∙ sym (ap (λ (t : List Event). retired t) enters.trace_is ∙ none);
+        reads = subst (λ (l : Layout). entered_digest l trace ≡ program_digest (blocks_in (static_blocks l) (static_bytes image))) unentered.layout enters.reads;
+        expected = entered-expected image.layout trace (omega (arith, enters.long, ap (λ (l : Layout). enter_events l) unentered.layout));
       }
 
 some-same : {T : Type 0} (x y : T) → Some x ≡ Some y → x ≡ y
@@ -274,11 +327,11 @@ some-same x y is = cc
 
 -- a new machine that was entered
 pub ready-entered : {L : Type 0} (lines : L → LineMap) (image : Image) (old_trace trace : List Event) (old new : Parts L) (machine : TurnMachine L) → machine.parts ≡ Some old → machine.entered ≡ false
-    → EntersSo lines old.layout machine.fuel old new trace → (input : List ℕ) (veil : Veil) (handed_out : List ℕ) → AreBytes input → FitsMachine lines image input veil old_trace handed_out machine
+    → EntersSo lines old.layout (static_bytes image) machine.fuel old new trace → (input : List ℕ) (veil : Veil) (handed_out : List ℕ) → AreBytes input → FitsMachine lines image input veil old_trace handed_out machine
     → StandsWith lines image input veil trace handed_out machine.core machine.next machine.held machine.fuel machine.retired new
 ready-entered {L} lines image old_trace trace old new machine kept not enters input veil handed_out bytes (unentered parts fits) =
     let same : old ≡ parts = some-same old parts (sym kept ∙ fits.kept) in
-    let P : Parts L → Type 0 = λ p. EntersSo lines p.layout machine.fuel p new trace in
+    let P : Parts L → Type 0 = λ p. EntersSo lines p.layout (static_bytes image) machine.fuel p new trace in
     stands-entering lines image input veil old_trace trace handed_out parts new machine bytes fits (subst P same enters)
 ready-entered lines image old_trace trace old new machine kept not enters input veil handed_out bytes (parked parts fits) =
     let e : true ≡ false = sym fits.entered ∙ not in cc
@@ -288,6 +341,18 @@ pub parked-layout : {L : Type 0} (lines : L → LineMap) (image : Image) (input 
 parked-layout lines image input veil events handed_out parts machine kept is (unentered other fits) = let e : false ≡ true = sym fits.entered ∙ is in cc
 parked-layout {L} lines image input veil events handed_out parts machine kept is (parked other fits) =
     let same : parts ≡ other = some-same parts other (sym kept ∙ fits.kept) in ap (λ (p : Parts L). p.layout) same ∙ fits.stands.layout
+
+-- entering a new machine ended the run
+pub over-entering : {L : Type 0} (lines : L → LineMap) (image : Image) (old_trace trace : List Event) (end : End) (machine : TurnMachine L) → machine.entered ≡ false
+    → ((veil : Veil) (input : List ℕ) → RunIsOver veil (program_of image input) machine.fuel [] end trace) → (input : List ℕ) (veil : Veil) (handed_out : List ℕ)
+    → FitsMachine lines image input veil old_trace handed_out machine → RunIsOver veil (program_of image input) machine.fuel handed_out end trace
+over-entering lines image old_trace trace end machine not over input veil handed_out (unentered parts fits) =
+    subst (λ (bytes : List ℕ). RunIsOver veil (program_of image input) machine.fuel bytes end trace) (sym fits.nothing) (over veil input)
+over-entering lines image old_trace trace end machine not over input veil handed_out (parked parts fits) = let e : true ≡ false = sym fits.entered ∙ not in cc
+
+pub err-then : {T E : Type 0} (result : Result T E) (P Q : E → Type 0) → ((fault : E) → P fault → Q fault) → IfErr result P → IfErr result Q
+err-then (Ok value) P Q f holds = tt
+err-then (Err fault) P Q f holds = f fault holds
 
 pub ok-then : {T E : Type 0} (result : Result T E) (P Q : T → Type 0) → ((value : T) → P value → Q value) → IfOk result P → IfOk result Q
 ok-then (Ok value) P Q f holds = f value holds
@@ -306,11 +371,13 @@ module _ {O L : Type 0} (lines : L → LineMap) (trace : O → List Event) (room
     enough = omega (arith, enough, ap (λ (t : List Event). length t) is);
     takes = takes;
     counted = stands.counted ∙ ap (λ (t : List Event). retired t) (sym is);
+    reads = ap (λ (t : List Event). entered_digest image.layout t) is ∙ stands.reads;
+    expected = let P : List Event → Type 0 = λ t. ReadsExpected image.layout (history t) in subst P (sym is) stands.expected;
   }
 
   pub ends-turn : (turn : Turn) (limit : Option ℕ) (out held : List ℕ) (count : ℕ) (core : Processor) (memory : SecureMemory O L) (port : Port) (parts : Parts L) (last : List Event) (old_veil : Veil) (entered : Bool)
       → LeadsTo (sight_on lines trace room told same) (room_on lines trace room told same) (program_of image input) fuel turn limit out held count old_veil (record { core = core; memory = memory; port = port })
-      → old_veil ≡ veil → (turn ≡ Parked → IsReady (sight_of lines trace room told memory)) → parts.tree ≡ memory.tree → parts.log ≡ memory.log → parts.stamps ≡ memory.stamps
+      → old_veil ≡ veil → (turn ≡ Parked → IsWatched (sight_of lines trace room told memory)) → parts.tree ≡ memory.tree → parts.log ≡ memory.log → parts.stamps ≡ memory.stamps
       → parts.modes ≡ memory.mode_unit → parts.layout ≡ memory.layout → last ≡ trace memory.lent.now → port.input.now ≡ input → port.next ≤ length port.input.now → entered ≡ true
       → EndsTurn lines image input veil fuel turn last limit out (record { parts = Some parts; core = core; next = port.next; held = held; fuel = fuel; retired = count; entered = entered })
   ends-turn (Over end) limit out held count core memory port parts last old_veil entered leads same_veil ready tree log stamps modes layout is input_is within is_entered =
@@ -322,13 +389,17 @@ module _ {O L : Type 0} (lines : L → LineMap) (trace : O → List Event) (room
       let S : Parts L → Type 0 = λ p. MemoryStands p.layout p.tree (lines p.tree.lines) p.log p.stamps (trace memory.lent.now) in
       let plain_parts : Parts L = record { tree = memory.tree; log = memory.log; stamps = memory.stamps; modes = memory.mode_unit; layout = memory.layout } in
       let equal : parts ≡ plain_parts = same-parts plain_parts parts tree log stamps modes layout in
-      let here : S plain_parts = (ready refl).stands in
+      let here : S plain_parts = (ready refl).ready.stands in
       let N : List Event → Type 0 = λ t. MemoryStands parts.layout parts.tree (lines parts.tree.lines) parts.log parts.stamps t in (
         parked parts (record {
           kept = refl;
           entered = is_entered;
           stands = record {
             stands = subst N (sym is) (subst S (sym equal) here);
+            sound =
+                let T : List Event → Type 0 = λ t. IsSound parts.layout t in
+                let U : Layout → Type 0 = λ l. IsSound l (trace memory.lent.now) in
+                subst T (sym is) (subst U (sym layout) (ready refl).sound);
             same_veil = ap (λ (t : TreeParts L Padding). hidden_payload t.veil) tree ∙ leads.1 ∙ same_veil;
             boundary = λ other other_is next_is.
                 off-bus lines trace room told same (program_of image input) fuel out held core memory parts last port other (sym tree) (sym log) (sym stamps) (sym modes) (sym layout) (sym is)
@@ -336,6 +407,8 @@ module _ {O L : Type 0} (lines : L → LineMap) (trace : O → List Event) (room
             layout = layout ∙ running.stands.tied.layout;
             within = subst (λ (xs : List ℕ). port.next ≤ length xs) input_is within;
             counted = running.counted ∙ ap (λ (t : List Event). retired t) (sym is);
+            reads = ap (λ (t : List Event). entered_digest image.layout t) is ∙ running.reads;
+            expected = let R : List Event → Type 0 = λ t. ReadsExpected image.layout (history t) in subst R (sym is) running.expected;
           };
         }),
         running.takes,

@@ -191,24 +191,24 @@ module _ {M : Type 0} (sight : Sight M) (accesses : Accesses M) (meets : MeetsBu
     pub exchanged : SameButWords tie.state.traffic after.traffic
     pub answers : Answers ended (start events) after (next events)
 
+  -- the program counter is an address of code, which lies before the log
+  pub fetched-by : IsNotStopped ended → (r : Option Why) → word_refusal (sight.layout old.memory) (sight.mode old.memory) Fetch old.core.pc ≡ r → old.core.pc < LOG_START
+  fetched-by none (Some reason) is =
+      let P : Option Why → Type 0 = λ r. UnlessRefused sight r step.answer old.memory step.middle (ReadsBlock sight (λ memory. memory old.core.pc) step.answer old.memory step.middle) in
+      let row = subst P is (meets.fetch old.memory step.middle old.core.pc step.answer tie.secure step.fetched) in
+      let Q : Result ℕ Stop → Type 0 = λ a. GoesOnAfter accesses a (record old { memory = step.middle }) ended new in
+      let stopped : IsStopped (stop.Refused reason) (record old { memory = step.middle }) ended new = subst Q row.0 step.goes_on in
+      absurd (none (stop.Refused reason) stopped.ends)
+  fetched-by none None is =
+      let code : class_at (sight.layout old.memory) old.core.pc ≡ Some Code = code-fetched (sight.layout old.memory) (start []) tie.secure is in
+      let lies = LiesIn-class_at (sight.layout old.memory) old.core.pc Code code in
+      let fits = (sight.layout old.memory).data_fits in
+      let below = lies.1 in
+      omega (arith, below, fits)
+
   module _ (more : List Event) (last : M) (none : IsNotStopped ended) (retires : Retires sight ended more new.memory last) where
     abbrev all : List Event
     all = on.events ++ more
-
-    -- the program counter is an address of code, which lies before the log
-    pub fetched-by : (r : Option Why) → word_refusal (sight.layout old.memory) (sight.mode old.memory) Fetch old.core.pc ≡ r → old.core.pc < LOG_START
-    fetched-by (Some reason) is =
-        let P : Option Why → Type 0 = λ r. UnlessRefused sight r step.answer old.memory step.middle (ReadsBlock sight (λ memory. memory old.core.pc) step.answer old.memory step.middle) in
-        let row = subst P is (meets.fetch old.memory step.middle old.core.pc step.answer tie.secure step.fetched) in
-        let Q : Result ℕ Stop → Type 0 = λ a. GoesOnAfter accesses a (record old { memory = step.middle }) ended new in
-        let stopped : IsStopped (stop.Refused reason) (record old { memory = step.middle }) ended new = subst Q row.0 step.goes_on in
-        absurd (none (stop.Refused reason) stopped.ends)
-    fetched-by None is =
-        let code : class_at (sight.layout old.memory) old.core.pc ≡ Some Code = code-fetched (sight.layout old.memory) (start []) tie.secure is in
-        let lies = LiesIn-class_at (sight.layout old.memory) old.core.pc Code code in
-        let fits = (sight.layout old.memory).data_fits in
-        let below = lies.1 in
-        omega (arith, below, fits)
 
     pub word-left : blocks_taken (sight.layout old.memory) V all tie.state.memory old.core.pc ≡ blocks_taken (sight.layout old.memory) V on.events tie.state.memory old.core.pc
     word-left =
@@ -216,7 +216,7 @@ module _ {M : Type 0} (sight : Sight M) (accesses : Accesses M) (meets : MeetsBu
         ap (λ (m : ℕ → ℕ). m old.core.pc) (taken-append (sight.layout old.memory) V on.events more tie.state.memory)
         ∙ ap (λ (l : Layout). blocks_taken l V more taken old.core.pc) (sym on.makes.layout)
         ∙ ap (λ (v : Veil). blocks_taken (sight.layout new.memory) v more taken old.core.pc) (sym on.makes.veil)
-        ∙ retires.data_stays taken old.core.pc (fetched-by (word_refusal (sight.layout old.memory) (sight.mode old.memory) Fetch old.core.pc) refl)
+        ∙ retires.data_stays taken old.core.pc (fetched-by none (word_refusal (sight.layout old.memory) (sight.mode old.memory) Fetch old.core.pc) refl)
 
     agrees-later : (memory : ℕ → ℕ) → sight.Agrees new.memory memory → sight.Agrees last (blocks_taken (sight.layout old.memory) V more memory)
     agrees-later memory agrees =

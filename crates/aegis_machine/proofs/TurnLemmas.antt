@@ -1,7 +1,9 @@
 -- A turn, from what the machine keeps.
-use Rattle.std.proofs.Common.{◌≡◌, ℕ, ◌≤◌, ◌++◌, arith, true, false, List, [], length, Option, Some, None, refl, sym, ap, ◌∙◌, subst}
-use Rattle.std.specs.Prelude.{◌≢◌}
-use Rattle.std.proofs.lemmas.List.{append-nil}
+use Rattle.std.proofs.Common.{◌≡◌, ℕ, ◌≤◌, ◌++◌, arith, false, List, [], length, Option, Some, None, refl, sym, ap, ◌∙◌, subst}
+use Rattle.std.specs.Prelude.{IfSome}
+use Rattle.aegis_num.specs.declared.Key.{Key}
+use Rattle.aegis_machine.specs.declared.turns.Turn.{Turn}
+use Rattle.std.proofs.lemmas.List.{append-nil, append_assoc}
 use Rattle.std.proofs.lemmas.List.Sums.{count_by-le-length}
 use Rattle.aegis_edge.specs.Faults.{Rose}
 use Rattle.aegis_edge.specs.Sink.{Appends}
@@ -24,9 +26,9 @@ use Rattle.secure_memory.specs.MemoryStands.{IsOfLayout}
 use Rattle.secure_memory.specs.PrivatePads.{Padding, hidden_payload}
 use Rattle.orbis_core.specs.Ideal.{entry_address}
 use Rattle.aegis_machine.specs.Stores.{IsNewStore, StoreParts}
-use Rattle.aegis_machine.specs.MachineParts.{FitsMachine, StandsWith, TakesIn, TakesRest, parked, unentered}
+use Rattle.aegis_machine.specs.MachineParts.{CarriesSums, FitsMachine, IsOfEntering, StandsWith, TakesIn, TakesRest, parked, unentered}
 use Rattle.aegis_machine.specs.declared.machine.Machine.{Machine as TurnMachine}
-use Rattle.aegis_machine.proofs.RunLemmas.{appends-both, front-both}
+use Rattle.aegis_machine.proofs.RunLemmas.{appends-both}
 
 pub stands-same : {L : Type 0} (lines : L → LineMap) (image : Image) (input : List ℕ) (veil : Veil) (trace : List Event) (handed_out : List ℕ) (core core' : Processor) (next next' : ℕ)
     (held held' : List ℕ) (fuel fuel' count count' : ℕ) (parts : Parts L) → core' ≡ core → next' ≡ next → held' ≡ held → fuel' ≡ fuel → count' ≡ count
@@ -43,17 +45,20 @@ pub appends-nothing : (written : Option (List ℕ)) → Appends written written 
 appends-nothing None = refl
 appends-nothing (Some bytes) = ap (λ (xs : List ℕ). Some xs) (sym (append-nil bytes))
 
--- where nothing was handed out, and the sink did not fail
-pub takes-nothing : (end : End) (written : Option (List ℕ)) (faults : ℕ) → end ≢ ends.WriteFault → TakesIn (Over end) written written faults faults []
-takes-nothing ends.WriteFault written faults other = absurd (other refl)
-takes-nothing ends.Ended written faults other = (appends-nothing written, refl)
-takes-nothing (ends.Index at) written faults other = (appends-nothing written, refl)
-takes-nothing (ends.Divide at) written faults other = (appends-nothing written, refl)
-takes-nothing (ends.AbortTree event count) written faults other = (appends-nothing written, refl)
-takes-nothing (ends.AbortLog cause count) written faults other = (appends-nothing written, refl)
-takes-nothing (ends.AbortProgram read expected) written faults other = (appends-nothing written, refl)
-takes-nothing (ends.FuelOut count) written faults other = (appends-nothing written, refl)
-takes-nothing (ends.Refused why count) written faults other = (appends-nothing written, refl)
+-- where a run ends before its first instruction, nothing was handed out, and no abort carries sums
+pub takes-nothing : (end : End) (trace : List Event) (written : Option (List ℕ)) (faults : ℕ) → IsOfEntering end → TakesIn (Over end) trace written written faults faults []
+takes-nothing (ends.FuelOut count) trace written faults of = (appends-nothing written, refl)
+takes-nothing (ends.AbortProgram read expected) trace written faults of = (appends-nothing written, refl)
+takes-nothing end trace written faults of = absurd of
+
+pub carries-nothing : (key : Option Key) (end : End) (trace : List Event) → IsOfEntering end → IfSome key (λ k. CarriesSums k (Over end) trace)
+carries-nothing None end trace of = tt
+carries-nothing (Some key) (ends.FuelOut count) trace of = tt
+carries-nothing (Some key) (ends.AbortProgram read expected) trace of = tt
+carries-nothing (Some key) end trace of = absurd of
+
+pub carries-some : (found : Option Key) (key : Key) (turn : Turn) (trace : List Event) → found ≡ Some key → CarriesSums key turn trace → IfSome found (λ k. CarriesSums k turn trace)
+carries-some found key turn trace is carries = let P : Option Key → Type 0 = λ o. IfSome o (λ k. CarriesSums k turn trace) in subst P (sym is) carries
 
 -- a new machine fits its image
 pub new-fits : {L : Type 0} (lines : L → LineMap) (image : Image) (input : List ℕ) (store : StoreParts L) (fuel : ℕ) (tree : TreeParts L Padding) (log : LogState) (held : List ℕ) (stamps : ℕ) (modes : Modes)
@@ -83,18 +88,33 @@ new-fits {L} lines image input store fuel tree log held stamps modes core same_t
     })
 
 -- what a sink took in several turns
-pub takes-more : (end : End) (first middle last : Option (List ℕ)) (first_faults middle_faults last_faults : ℕ) (piece more : List ℕ) → Appends first middle piece → middle_faults ≡ first_faults
-    → TakesIn (Over end) middle last middle_faults last_faults more → TakesIn (Over end) first last first_faults last_faults (piece ++ more)
-takes-more ends.WriteFault first middle last first_faults middle_faults last_faults piece more taken steady takes =
-    let P : ℕ → Type 0 = λ n. Rose n last_faults in (front-both first middle last piece more taken takes.0, subst P steady takes.1)
-takes-more ends.Ended first middle last first_faults middle_faults last_faults piece more taken steady takes = (appends-both first middle last piece more taken takes.0, takes.1 ∙ steady)
-takes-more (ends.Index at) first middle last first_faults middle_faults last_faults piece more taken steady takes = (appends-both first middle last piece more taken takes.0, takes.1 ∙ steady)
-takes-more (ends.Divide at) first middle last first_faults middle_faults last_faults piece more taken steady takes = (appends-both first middle last piece more taken takes.0, takes.1 ∙ steady)
-takes-more (ends.AbortTree event count) first middle last first_faults middle_faults last_faults piece more taken steady takes = (appends-both first middle last piece more taken takes.0, takes.1 ∙ steady)
-takes-more (ends.AbortLog cause count) first middle last first_faults middle_faults last_faults piece more taken steady takes = (appends-both first middle last piece more taken takes.0, takes.1 ∙ steady)
-takes-more (ends.AbortProgram read expected) first middle last first_faults middle_faults last_faults piece more taken steady takes = (appends-both first middle last piece more taken takes.0, takes.1 ∙ steady)
-takes-more (ends.FuelOut count) first middle last first_faults middle_faults last_faults piece more taken steady takes = (appends-both first middle last piece more taken takes.0, takes.1 ∙ steady)
-takes-more (ends.Refused why count) first middle last first_faults middle_faults last_faults piece more taken steady takes = (appends-both first middle last piece more taken takes.0, takes.1 ∙ steady)
+pub takes-more : (end : End) (trace : List Event) (first middle last : Option (List ℕ)) (first_faults middle_faults last_faults : ℕ) (piece more : List ℕ) → Appends first middle piece → middle_faults ≡ first_faults
+    → TakesIn (Over end) trace middle last middle_faults last_faults more → TakesIn (Over end) trace first last first_faults last_faults (piece ++ more)
+takes-more ends.WriteFault trace first middle last first_faults middle_faults last_faults piece more taken steady takes =
+    let P : ℕ → Type 0 = λ n. Rose n last_faults in
+    let but = takes.0 in (
+      record {
+        before = but.before;
+        count = but.count;
+        last = but.last;
+        first = piece ++ but.first;
+        rest = but.rest;
+        parts = ap (λ (bytes : List ℕ). piece ++ bytes) but.parts ∙ sym (append_assoc piece but.first but.rest);
+        long = but.long;
+        middle = but.middle;
+        taken = appends-both first middle but.middle piece but.first taken but.taken;
+        front = but.front;
+      },
+      subst P steady takes.1,
+    )
+takes-more ends.Ended trace first middle last first_faults middle_faults last_faults piece more taken steady takes = (appends-both first middle last piece more taken takes.0, takes.1 ∙ steady)
+takes-more (ends.Index at) trace first middle last first_faults middle_faults last_faults piece more taken steady takes = (appends-both first middle last piece more taken takes.0, takes.1 ∙ steady)
+takes-more (ends.Divide at) trace first middle last first_faults middle_faults last_faults piece more taken steady takes = (appends-both first middle last piece more taken takes.0, takes.1 ∙ steady)
+takes-more (ends.AbortTree event count) trace first middle last first_faults middle_faults last_faults piece more taken steady takes = (appends-both first middle last piece more taken takes.0, takes.1 ∙ steady)
+takes-more (ends.AbortLog cause count) trace first middle last first_faults middle_faults last_faults piece more taken steady takes = (appends-both first middle last piece more taken takes.0, takes.1 ∙ steady)
+takes-more (ends.AbortProgram read expected) trace first middle last first_faults middle_faults last_faults piece more taken steady takes = (appends-both first middle last piece more taken takes.0, takes.1 ∙ steady)
+takes-more (ends.FuelOut count) trace first middle last first_faults middle_faults last_faults piece more taken steady takes = (appends-both first middle last piece more taken takes.0, takes.1 ∙ steady)
+takes-more (ends.Refused why count) trace first middle last first_faults middle_faults last_faults piece more taken steady takes = (appends-both first middle last piece more taken takes.0, takes.1 ∙ steady)
 
 -- a run so far, in turns that left the machine parked
 pub record RunSoFar {L : Type 0} (lines : L → LineMap) (image : Image) (input : List ℕ) (veil : Veil) (fuel : ℕ) (trace : List Event) (old_written written : Option (List ℕ)) (limit : Option ℕ)

@@ -1,5 +1,5 @@
 -- Worked traces: what is said of each at its boundaries, and traces of which one part is wrong. The numbers were worked out by hand.
-use Rattle.std.proofs.Common.{◌≡◌, ◌≢◌, ℕ, ◌-◌, ◌/◌, ◌≤◌, true, false, List, [], ◌∷◌, ◌++◌, replicate, take, Option, Some, None, refl, sym, ap, lit≤, arith, inl, inr}
+use Rattle.std.proofs.Common.{◌≡◌, ℕ, ◌-◌, ◌/◌, ◌≤◌, true, false, List, [], ◌∷◌, ◌++◌, replicate, take, Some, refl, lit≤, arith, inl, inr}
 use Rattle.execution.specs.Run.{run, state_of}
 use Rattle.aegis_num.specs.declared.Block.{Block}
 use Rattle.aegis_num.specs.declared.Place.TheVariants.{Tree, Log}
@@ -20,7 +20,7 @@ use Rattle.bus_machine.specs.BusMachine.{LoadedProgram, Veil}
 use Rattle.aegis_machine.specs.Boundaries.{HasWholePhases, IsFuelled, IsOnPathInStep, IsOutOfFuel, IsReachedInStep, IsReadInStep, IsUnexpectedRead, IsWholePhase, accessed, blocks_in, checked, is_suspended, is_untrusted}
 
 -- a verified block, a private one, a code block and a log block: the tree blocks 1, 2 and 3 under the root, and one of the log
-abbrev layout : Layout
+abbrev pub layout : Layout
 layout = record {
   verified = 1;
   private = 1;
@@ -34,17 +34,17 @@ layout = record {
 }
 
 -- words of code, filled up with instructions that do nothing
-abbrev program : List ℕ → LoadedProgram
+abbrev pub program : List ℕ → LoadedProgram
 program words = record { layout = layout; statics = bytes_of (words ++ replicate 12 0x15000000); entry = 0; input = [] }
 
-abbrev veil : Veil
+abbrev pub veil : Veil
 veil n stamp payload = payload
 
-abbrev block : ℕ → List ℕ → Block
+abbrev pub block : ℕ → List ℕ → Block
 block stamp payload = record { payload = payload; stamp = stamp }
 
 -- entering takes seven events
-abbrev entering : List Event
+abbrev pub entering : List Event
 entering =
     Note marks.Enter
     ∷ BlockWrite (Tree 1) (block 1 [])
@@ -55,10 +55,10 @@ entering =
     ∷ BlockWrite (Log 0) (block 5 [])
     ∷ []
 
-abbrev done : Event
+abbrev pub done : Event
 done = Note (marks.Retire Secure)
 
-abbrev after : List Event → History
+abbrev pub after : List Event → History
 after events = history (entering ++ events)
 
 -- ---- fuel: here there has to be 16,642 after the events so far, and entering makes seven
@@ -143,7 +143,7 @@ phases_not = (
 -- ---- aborts
 
 -- digests that are the payloads, and slots that are the first byte
-abbrev plain : Digests
+abbrev pub plain : Digests
 plain = record { digest = λ n block. block.payload; parent = λ n. (n - 1) / 3; slot = λ n payload. take 1 payload }
 
 -- after its write a block is expected to have the payload that was written
@@ -167,7 +167,7 @@ on_path = (
 )
 
 -- l.movhi r4,0x2000; l.lwz r3,0(r4): the second instruction accesses the log block
-abbrev logged_load : List ℕ
+abbrev pub logged_load : List ℕ
 logged_load = 0x18802000 ∷ 0x84640000 ∷ 0x15000000 ∷ 0x15000000 ∷ []
 
 read_in_step : IsReadInStep veil (program logged_load) 0 (after (done ∷ [])) × IsReadInStep veil (program (0x70000008 ∷ [])) 0 (after (Note marks.CheckStart ∷ []))

@@ -1,11 +1,12 @@
 -- Promise: what an instruction of the secure program does: its step, and then, event by event, what belongs to it, and which bytes are held and
 -- handed out. It is said for each memory on a bus, whatever came over the bus.
-use Rattle.std.specs.Prelude.{◌≡◌, ℕ, ◌+◌, ◌%◌, ◌^◌, ◌<◌, ◌⊎◌, ◌==◌, Bool, true, false, List, [], ◌∷◌, ◌++◌, length, Option, None}
+use Rattle.std.specs.Prelude.{◌≡◌, ◌≢◌, ℕ, ◌+◌, ◌%◌, ◌^◌, ◌<◌, ◌⊎◌, ◌==◌, Bool, true, false, List, [], ◌∷◌, ◌++◌, length, Option, None}
 use Rattle.std.specs.List.{list_all}
+use Rattle.aegis_num.specs.declared.Place.TheVariants.{Log}
 use Rattle.aegis_edge.specs.Sink.{Appends, AppendsFront, limit_after}
 use Rattle.aegis_edge.specs.Faults.{Rose}
 use Rattle.off_chip.specs.declared.Event.{Event}
-use Rattle.off_chip.specs.declared.Event.TheVariants.{Note}
+use Rattle.off_chip.specs.declared.Event.TheVariants.{BlockRead, BlockWrite, Note}
 use Rattle.off_chip.specs.declared.Mark.TheVariants.{CheckStart, CheckPassed, Resume, Suspend}
 use Rattle.off_chip.specs.Histories.{History, history}
 use Rattle.off_chip.specs.Epochs.{IsQuiet}
@@ -20,7 +21,7 @@ use Rattle.orbis_core.specs.Rows.{IsNoStop, Machine, Steps}
 use Rattle.stamp_log.specs.declared.LogCause.{LogCause}
 use Rattle.untrusted_run.specs.declared.UntrustedEnd.{UntrustedEnd}
 use Rattle.untrusted_run.specs.Phases.{IsPhase}
-use Rattle.bus_machine.specs.BusAccesses.{Makes, Sight, is_block_event}
+use Rattle.bus_machine.specs.BusAccesses.{Makes, Sight}
 use Rattle.bus_machine.specs.BusData.{most_held}
 use Rattle.aegis_machine.specs.declared.instructions.Done.{Done}
 use Rattle.aegis_machine.specs.declared.instructions.Done.TheVariants as done
@@ -30,17 +31,23 @@ use Rattle.aegis_machine.specs.Ties.{Retires, end_of}
 
 -- ---- checks and suspensions
 
--- a check that passes: its mark, then blocks that are written back and read, and then the mark that it passed
+-- whether an event reads or writes a block of the log
+abbrev pub is_log_event : Event → Bool
+is_log_event (BlockRead (Log n) block) = true
+is_log_event (BlockWrite (Log n) block) = true
+is_log_event event = false
+
+-- a check that passes: its mark, then blocks of the log that are written back and read, and then the mark that it passed
 pub record IsCheck (events : List Event) : Type 0 where
   pub middle : List Event
   pub events_are : events ≡ Note CheckStart ∷ (middle ++ Note CheckPassed ∷ [])
-  pub blocks : list_all is_block_event middle ≡ true
+  pub blocks : list_all is_log_event middle ≡ true
 
--- a check that does not: its mark, and blocks that are written back and read
+-- a check that does not: its mark, and blocks of the log that are written back and read
 pub record IsFailedCheck (events : List Event) : Type 0 where
   pub middle : List Event
   pub events_are : events ≡ Note CheckStart ∷ middle
-  pub blocks : list_all is_block_event middle ≡ true
+  pub blocks : list_all is_log_event middle ≡ true
 
 -- a phase of untrusted code between the mark that the program is suspended and the mark that it goes on
 pub record IsSuspension (events : List Event) : Type 0 where
@@ -157,7 +164,8 @@ DoesSo sight accesses Caused (done.Fault fault.Sink) held kept piece old new = F
 
 -- ---- the sink
 
--- What the sink took, whose limit, where it has one, is lower by as much: the whole piece; where it failed, a front of it, and its count of faults rose.
+-- What the sink took, whose limit, where it has one, is lower by as much: the whole piece; where it failed, there was one, of which it took a front, and its
+-- count of faults rose.
 abbrev pub HandsOut : Done → Option (List ℕ) → Option (List ℕ) → ℕ → ℕ → Option ℕ → Option ℕ → List ℕ → Type 0
-HandsOut (done.Fault fault.Sink) old new faults_old faults_new limit_old limit_new piece = AppendsFront old new piece × Rose faults_old faults_new
+HandsOut (done.Fault fault.Sink) old new faults_old faults_new limit_old limit_new piece = AppendsFront old new piece × Rose faults_old faults_new × (piece ≢ [])
 HandsOut answer old new faults_old faults_new limit_old limit_new piece = Appends old new piece × (faults_new ≡ faults_old) × (limit_new ≡ limit_after limit_old (length piece))

@@ -1,4 +1,5 @@
 pub mod Boundaries
+pub mod Causes
 pub mod Follows
 pub mod FuelTests
 pub mod Guards
@@ -6,8 +7,10 @@ pub mod InstructionsDone
 pub mod Keeping
 pub mod MachineParts
 pub mod Outcomes
+pub mod ProgramsRead
 pub mod Releases
 pub mod SecureSights
 pub mod SecureMeets
 pub mod Stores
 pub mod Ties
+pub mod Watched

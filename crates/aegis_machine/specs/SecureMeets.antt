@@ -89,7 +89,7 @@ move-block (Note (mark.Sent count)) is = cc
 move-block (Note mark.Suspend) is = cc
 move-block (Note mark.Resume) is = cc
 
-moved-blocks : (events : List Event) → All (λ event. IsTrue (is_block_move event)) events → list_all is_block_event events ≡ true
+pub moved-blocks : (events : List Event) → All (λ event. IsTrue (is_block_move event)) events → list_all is_block_event events ≡ true
 moved-blocks [] moves = refl
 moved-blocks (event ∷ events) moves =
     and_from (is_block_event event) (list_all is_block_event events) (move-block event (All-head (λ event. IsTrue (is_block_move event)) event events moves))

@@ -28,7 +28,8 @@ pub trait Guarded: Memory {
     /// It stands on its bus, so that each call can follow.
     ghost ready: { Self → Type 0 };
 
-    /// What its calls keep of it: it is on the bus that it was on, whose events and room are together the same.
+    /// What its calls keep of it: it is on the bus that it was on, whose events and room are together the same, and its log
+    /// has the same key.
     ghost Keeps: { Self → Self → Type 0 };
 
     /// What is known of it where its last call was a check that passed.

@@ -1,5 +1,5 @@
 //! Bytes that wait for a check, so that nothing is sent which rests on a read that was not checked.
-ghost use Rattle.std.specs.Prelude.{◌≡◌, ℕ, ◌+◌, ◌<◌, ◌≤◌, [], ◌∷◌, ◌++◌, length, IsTrue, OnOk, OnErr, ◌↔◌};
+ghost use Rattle.std.specs.Prelude.{◌≡◌, ◌≢◌, ℕ, ◌+◌, ◌<◌, ◌≤◌, [], ◌∷◌, ◌++◌, length, IsTrue, OnOk, OnErr, ◌↔◌};
 ghost use Rattle.aegis_edge.specs.Faults.{Rose};
 ghost use Rattle.aegis_edge.specs.Sink.{Appends, AppendsFront, IsWithin, limit_after};
 ghost use Rattle.aegis_machine.specs.Guards.{LeadsOn};
@@ -73,6 +73,7 @@ impl Held {
         ensures ready { M.ready mem.new }
         ensures kept { M.Keeps mem.old mem.new }
         ensures none { self.old ≡ [] → out.new ≡ out.old }
+        ensures some { OnErr result (self.old ≢ []) }
         ensures taken { OnOk result (Appends (K.written out.old) (K.written out.new) self.old) }
         ensures left { OnOk result (K.limit out.new ≡ limit_after (K.limit out.old) (length self.old)) }
         ensures steady { OnOk result (K.faults out.new ≡ K.faults out.old) }

@@ -7,6 +7,7 @@ mod held;
 mod instructions;
 mod laws;
 mod machine;
+mod program;
 mod secure;
 mod store;
 mod turns;

@@ -1,11 +1,11 @@
 //! The machine in turns.
-ghost use Rattle.std.specs.Prelude.{◌≡◌, ◌≢◌, ℕ, ◌+◌, ◌≤◌, true, List, [], ◌∷◌, ◌++◌, length, IfErr, IfOk, OnOk};
+ghost use Rattle.std.specs.Prelude.{◌≡◌, ◌≢◌, ℕ, ◌+◌, ◌≤◌, true, List, [], ◌∷◌, ◌++◌, length, IfErr, IfOk, IfSome, OnOk, Some};
 ghost use Rattle.std.specs.List.{list_all};
 ghost use Rattle.regions.specs.declared.Mode.TheVariants.{Std, Te};
 ghost use Rattle.off_chip.specs.declared.Event.{Event as SomeEvent};
 ghost use Rattle.off_chip.specs.declared.Event.TheVariants.{Note};
 ghost use Rattle.off_chip.specs.declared.Mark.TheVariants.{Enter};
-ghost use Rattle.off_chip.specs.Boundaries.{enter_events};
+ghost use Rattle.off_chip.specs.Boundaries.{enter_events, retired};
 ghost use Rattle.hash_tree.specs.TreeParts.{SameTree};
 ghost use Rattle.bus_machine.specs.BusAccesses.{is_access_event};
 ghost use Rattle.std.specs.FinMap.{empty};
@@ -14,16 +14,21 @@ ghost use Rattle.image_file.specs.declared.Image.{Image as SomeImage};
 ghost use Rattle.bus_machine.specs.BusMachine.{Veil};
 ghost use Rattle.stamp_log.specs.StandsOn.{IsNew};
 ghost use Rattle.secure_memory.specs.MemoryStands.{IsOfLayout, MemoryStands};
-ghost use Rattle.aegis_machine.specs.declared.ends.End.TheVariants.{FuelOut as NoFuel, WriteFault as SinkFails};
 ghost use Rattle.orbis_core.specs.Ideal.{entry_address};
 ghost use Rattle.secure_memory.specs.PrivatePads.{hidden_payload};
+ghost use Rattle.memory_trace.specs.SoundTraces.{IsSound};
 ghost use Rattle.aegis_machine.specs.Stores.{IsNewStore};
 ghost use Rattle.aegis_machine.specs.declared.turns.Turn.TheVariants.{Parked as StaysParked, Over};
-ghost use Rattle.aegis_machine.specs.FuelTests.{HasFuel};
-ghost use Rattle.aegis_machine.specs.MachineParts.{AreBytes, EndsTurn, EntersSo, FitsMachine, RunIsOver, StandsWith, TakesIn, TakesRest, program_of};
+ghost use Rattle.aegis_machine.specs.Boundaries.{blocks_in, entered_digest};
+ghost use Rattle.aegis_machine.specs.ProgramsRead.{SomeStaticUnfaithful};
+ghost use Rattle.block_hash.specs.BlockStrings.{program_digest};
+ghost use Rattle.image_file.specs.ImageTable.{static_bytes};
+ghost use Rattle.off_chip.specs.OffChipBytes.{static_blocks};
+ghost use Rattle.aegis_machine.specs.MachineParts.{AreBytes, CarriesSums, EndsTurn, EntersSo, FitsMachine, IsOfEntering, RetiresInTurn, RunIsOver, StandsWith, TakesIn, TakesRest, log_key, program_of};
 
 use crate::ends::{End, has_fuel};
 use crate::held::Held;
+use crate::program::digest_of;
 use crate::store::Store;
 use crate::turns::{Turn, run_on};
 use aegis_edge::Sink;
@@ -63,6 +68,7 @@ impl<L: Lines + Drop> Machine<L> {
             (hidden_payload store.tree.veil) [] [] result }
         ensures fuel { result.fuel ≡ fuel }
         ensures retired { result.retired ≡ 0 }
+        ensures key { log_key result ≡ Some store.log.key }
     {
         let layout = image.layout;
         let (tree, log, held) = store.apart();
@@ -100,15 +106,18 @@ impl<L: Lines + Drop> Machine<L> {
         requires room { self.old.fuel ≤ length (O.trace bus.old) + O.room bus.old }
         requires told { TellsOnly image.now.layout (O.layout bus.old) }
         ensures does { (piece : List ℕ)
-            × TakesIn result (K.written out.old) (K.written out.new)
+            × TakesIn result (O.trace bus.new) (K.written out.old) (K.written out.new)
             (K.faults out.old) (K.faults out.new) piece
             × ((veil : Veil) (handed_out : List ℕ)
             → FitsMachine L.lines image.now input.now veil (O.trace bus.old) handed_out self.old
             → TakesRest (K.limit out.old) self.old.fuel (length handed_out)
             → EndsTurn L.lines image.now input.now veil self.old.fuel result
             (O.trace bus.new) (K.limit out.new) (handed_out ++ piece) self.new) }
+        ensures sums { IfSome (log_key self.old) (λ key. CarriesSums key result (O.trace bus.new)) }
+        ensures key { result ≡ StaysParked → log_key self.new ≡ log_key self.old }
         ensures same { O.same_memory bus.old bus.new }
         ensures parked { result ≡ StaysParked → self.new.retired ≡ self.old.retired + n }
+        ensures over { RetiresInTurn result n (retired (O.trace bus.old)) (retired (O.trace bus.new)) }
         ensures total { length (O.trace bus.new) + O.room bus.new
             ≡ length (O.trace bus.old) + O.room bus.old }
     {
@@ -136,13 +145,15 @@ impl<L: Lines + Drop> Machine<L> {
             → FitsMachine L.lines image.now input veil (O.trace bus.old) handed_out self.old
             → RunIsOver veil (program_of image.now input) self.old.fuel handed_out end
             (O.trace bus.new)) }
-        ensures no_sink { IfErr result (λ end. end ≢ SinkFails) }
+        ensures ends { IfErr result IsOfEntering }
+        ensures key { IfOk result (λ parts. log_key self.old ≡ Some parts.log.key) }
         ensures entered { OnOk result (self.new.entered ≡ true) }
         ensures core { self.new.core ≡ self.old.core }
         ensures next { self.new.next ≡ self.old.next }
         ensures held { self.new.held ≡ self.old.held }
         ensures fuel { self.new.fuel ≡ self.old.fuel }
         ensures retired { self.new.retired ≡ self.old.retired }
+        ensures none { retired (O.trace bus.new) ≡ retired (O.trace bus.old) }
         ensures same { O.same_memory bus.old bus.new }
         ensures total { length (O.trace bus.new) + O.room bus.new
             ≡ length (O.trace bus.old) + O.room bus.old }
@@ -153,7 +164,7 @@ impl<L: Lines + Drop> Machine<L> {
                     return Ok(parts);
                 }
                 self.entered = true;
-                enter_program(parts, bus, self.fuel)
+                enter_program(parts, image, bus, self.fuel)
             }
             None => unreachable!(),
         }
@@ -178,7 +189,7 @@ impl<L: Lines + Drop> Machine<L> {
         requires room { self.old.fuel ≤ length (O.trace bus.old) + O.room bus.old }
         requires told { TellsOnly parts.layout (O.layout bus.old) }
         ensures does { (piece : List ℕ)
-            × TakesIn result (K.written out.old) (K.written out.new)
+            × TakesIn result (O.trace bus.new) (K.written out.old) (K.written out.new)
             (K.faults out.old) (K.faults out.new) piece
             × ((image : SomeImage) (veil : Veil) (handed_out : List ℕ)
             → StandsWith L.lines image input.now veil (O.trace bus.old) handed_out
@@ -186,8 +197,11 @@ impl<L: Lines + Drop> Machine<L> {
             → TakesRest (K.limit out.old) self.old.fuel (length handed_out)
             → EndsTurn L.lines image input.now veil self.old.fuel result
             (O.trace bus.new) (K.limit out.new) (handed_out ++ piece) self.new) }
+        ensures sums { CarriesSums parts.log.key result (O.trace bus.new) }
+        ensures key { log_key self.new ≡ Some parts.log.key }
         ensures same { O.same_memory bus.old bus.new }
         ensures parked { result ≡ StaysParked → self.new.retired ≡ self.old.retired + n }
+        ensures over { RetiresInTurn result n (retired (O.trace bus.old)) (retired (O.trace bus.new)) }
         ensures total { length (O.trace bus.new) + O.room bus.new
             ≡ length (O.trace bus.old) + O.room bus.old }
     {
@@ -246,10 +260,11 @@ pub fn run<O: OffChip, K: Sink, L: Lines + Drop>(
     requires told { TellsOnly image.now.layout (O.layout bus.old) }
     requires takes { TakesRest (K.limit out.old) fuel 0 }
     ensures does { (piece : List ℕ)
-        × TakesIn (Over result) (K.written out.old) (K.written out.new)
+        × TakesIn (Over result) (O.trace bus.new) (K.written out.old) (K.written out.new)
         (K.faults out.old) (K.faults out.new) piece
         × RunIsOver (hidden_payload store.tree.veil) (program_of image.now input.now)
         fuel piece result (O.trace bus.new) }
+    ensures sums { CarriesSums store.log.key (Over result) (O.trace bus.new) }
     ensures same { O.same_memory bus.old bus.new }
 {
     let _events = bus.events();
@@ -272,9 +287,11 @@ fn start_address(image: &Image) -> u32
     TREE_START + BLOCK_BYTES * blocks + 4 * image.entry
 }
 
-// Enters the program with new parts, where there is fuel for it.
+// Enters the program with new parts, where there is fuel for it. The run is over where another program was read than that of
+// the image.
 fn enter_program<O: OffChip, L: Lines + Drop>(
     parts: Parts<L>,
+    image: &Image,
     bus: &mut O,
     fuel: u64,
 ) -> Result<Parts<L>, End>
@@ -282,11 +299,15 @@ fn enter_program<O: OffChip, L: Lines + Drop>(
     requires lines { L.lines parts.tree.lines ≡ empty }
     requires log { IsNew parts.log }
     requires of_layout { IsOfLayout parts.layout parts.tree parts.log }
+    requires layout { parts.layout ≡ image.now.layout }
     requires room { fuel ≤ O.room bus.old }
     requires told { TellsOnly parts.layout (O.layout bus.old) }
-    ensures enters { IfOk result (λ new. EntersSo L.lines parts.layout fuel parts new (O.trace bus.new)) }
-    ensures no_fuel { IfErr result (λ end. (end ≡ NoFuel 0) × (O.trace bus.new ≡ O.trace bus.old)
-        × (HasFuel parts.layout fuel 0 → ⊥)) }
+    ensures enters { IfOk result (λ new. EntersSo L.lines parts.layout (static_bytes image.now) fuel
+        parts new (O.trace bus.new)) }
+    ensures over { IfErr result (λ end. (veil : Veil) (input : List ℕ)
+        → RunIsOver veil (program_of image.now input) fuel [] end (O.trace bus.new)) }
+    ensures ends { IfErr result IsOfEntering }
+    ensures none { retired (O.trace bus.new) ≡ retired (O.trace bus.old) }
     ensures same { O.same_memory bus.old bus.new }
     ensures total { length (O.trace bus.new) + O.room bus.new
         ≡ length (O.trace bus.old) + O.room bus.old }
@@ -312,13 +333,18 @@ fn enter_program<O: OffChip, L: Lines + Drop>(
             blocks: ArrayVec::new(),
         },
     };
-    enter_memory(&mut mem);
+    let read = enter_memory(&mut mem);
+    let expected = digest_of(image);
     let (parts, _bus) = apart(mem);
+    if read != expected {
+        return Err(End::AbortProgram { read, expected });
+    }
     Ok(parts)
 }
 
-// Enters the program in a new memory, which is in the mode of the program then.
-fn enter_memory<O: OffChip, L: Lines>(mem: &mut SecureMemory<'_, O, L>)
+// Enters the program in a new memory, which is in the mode of the program then. The answer is the digest of the program that was
+// read.
+fn enter_memory<O: OffChip, L: Lines>(mem: &mut SecureMemory<'_, O, L>) -> [u8; 20]
     requires unused { O.trace mem.old.lent.now ≡ [] }
     requires lines { L.lines mem.old.tree.lines ≡ empty }
     requires log { IsNew mem.old.log }
@@ -329,21 +355,28 @@ fn enter_memory<O: OffChip, L: Lines>(mem: &mut SecureMemory<'_, O, L>)
     requires told { TellsOnly mem.old.layout (O.layout mem.old.lent.now) }
     ensures stands { MemoryStands mem.new.layout mem.new.tree
         (L.lines mem.new.tree.lines) mem.new.log mem.new.stamps (O.trace mem.new.lent.now) }
+    ensures sound { IsSound mem.new.layout (O.trace mem.new.lent.now) }
     ensures lines { L.lines mem.new.tree.lines ≡ empty }
     ensures log_lines { mem.new.log.lines ≡ mem.old.log.lines }
     ensures tree { SameTree mem.old.tree mem.new.tree }
+    ensures key { mem.new.log.key ≡ mem.old.log.key }
     ensures mode { mem.new.mode_unit.mode ≡ Te }
     ensures layout { mem.new.layout ≡ mem.old.layout }
     ensures events { (rest : List SomeEvent) × (O.trace mem.new.lent.now ≡ Note Enter ∷ rest)
         × (list_all is_access_event rest ≡ true) }
     ensures count { length (O.trace mem.new.lent.now) ≡ enter_events mem.old.layout }
+    ensures digest { result ≡ entered_digest mem.old.layout (O.trace mem.new.lent.now) }
+    ensures unfaithful { (statics : List ℕ)
+        → result ≢ program_digest (blocks_in (static_blocks mem.old.layout) statics)
+        → SomeStaticUnfaithful mem.old.layout statics (O.trace mem.new.lent.now) }
     ensures same { O.same_memory mem.old.lent.now mem.new.lent.now }
     ensures total { length (O.trace mem.new.lent.now) + O.room mem.new.lent.now
         ≡ length (O.trace mem.old.lent.now) + O.room mem.old.lent.now }
     ensures same_reference { mem.new.lent.ghost_name ≡ mem.old.lent.ghost_name }
 {
-    let _digest = mem.enter();
+    let digest = mem.enter();
     let _entered = mem.mode_unit.enter();
+    digest
 }
 
 // Takes a memory apart: what it consists of, and its bus.

@@ -12,23 +12,27 @@ impl<O: OffChip, L: Lines> Guarded for SecureMemory<'_, O, L> {
     ghost use Rattle.std.proofs.Common.{refl, ◌∙◌};
     ghost use Rattle.stamp_log.specs.LogState.{value_under};
     ghost use Rattle.stamp_log.specs.OfflineCheck.{IsCause, PassedFaithful};
-    ghost use Rattle.secure_memory.specs.MemorySights.{IsReady, sight_of};
-    ghost use Rattle.aegis_machine.specs.Keeping.{SameTotal, secure_keeps};
+    ghost use Rattle.secure_memory.specs.MemorySights.{sight_of};
+    ghost use Rattle.aegis_machine.specs.Causes.{EndsByCause};
+    ghost use Rattle.aegis_machine.specs.Keeping.{SameTotal, keep_both, secure_keeps, secure_keeps_key};
     ghost use Rattle.aegis_machine.specs.SecureSights.{bus_sight};
-    ghost use Rattle.aegis_machine.specs.SecureMeets.{secure_leaves_room, secure_meets, secure_spends};
+    ghost use Rattle.aegis_machine.specs.SecureMeets.{secure_leaves_room, secure_meets};
+    ghost use Rattle.aegis_machine.specs.Watched.{IsWatched, secure_watches};
 
     ghost sight = { bus_sight (λ (memory : Self). sight_of L.lines O.trace O.room O.layout memory) };
 
     ghost room = { λ memory. O.room memory.lent.now };
 
-    ghost ready = { λ memory. IsReady (sight_of L.lines O.trace O.room O.layout memory) };
+    ghost ready = { λ memory. IsWatched (sight_of L.lines O.trace O.room O.layout memory) };
 
     ghost Keeps = { λ old new. (new.lent.ghost_name ≡ old.lent.ghost_name) × O.same_memory old.lent.now new.lent.now
-        × SameTotal (O.trace old.lent.now) (O.room old.lent.now) (O.trace new.lent.now) (O.room new.lent.now) };
+        × SameTotal (O.trace old.lent.now) (O.room old.lent.now) (O.trace new.lent.now) (O.room new.lent.now)
+        × (new.log.key ≡ old.log.key) };
 
     ghost Passed = { λ memory. PassedFaithful (value_under memory.log.key) (O.trace memory.lent.now) };
 
-    ghost Caused = { λ cause memory. IsCause (value_under memory.log.key) (O.trace memory.lent.now) cause };
+    ghost Caused = { λ cause memory. IsCause (value_under memory.log.key) (O.trace memory.lent.now) cause
+        × EndsByCause memory.layout.log (O.trace memory.lent.now) cause };
 
     fn mode(&self) -> Mode {
         self.mode_unit.mode()
@@ -64,14 +68,19 @@ impl<O: OffChip, L: Lines> Guarded for SecureMemory<'_, O, L> {
 
     ghost meets = { secure_meets _ _ };
 
-    ghost spends = { secure_spends _ _ };
+    ghost spends = { secure_watches _ _ };
 
-    ghost keeps_self = { λ a. (refl, O.reflexive a.lent.now, refl) };
+    ghost keeps_self = { λ a. (refl, O.reflexive a.lent.now, refl, refl) };
 
-    ghost keeps_both = { λ a b c one other.
-        (other.0 ∙ one.0, O.transitive a.lent.now b.lent.now c.lent.now one.1 other.1, other.2 ∙ one.2) };
+    ghost keeps_both = { λ a b c one other. (
+      other.0 ∙ one.0,
+      O.transitive a.lent.now b.lent.now c.lent.now one.1 other.1,
+      other.2 ∙ one.2,
+      other.3 ∙ one.3,
+    ) };
 
-    ghost keeps_each = { secure_keeps _ _ };
+    ghost keeps_each = { keep_both _ _ _ _ (λ old new one key. (one.0, one.1, one.2, key)) (secure_keeps _ _)
+        (secure_keeps_key _ _) };
 
-    ghost leaves = { λ memory n ready room. secure_leaves_room (sight_of L.lines O.trace O.room O.layout memory) n ready room };
+    ghost leaves = { λ memory n watched room. secure_leaves_room (sight_of L.lines O.trace O.room O.layout memory) n watched.ready room };
 }

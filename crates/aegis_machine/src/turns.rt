@@ -1,10 +1,12 @@
 //! Instructions one after another, until as many were done as were asked for, or the run is over.
 ghost use Rattle.std.specs.Prelude.{◌≡◌, ℕ, ◌+◌, ◌≤◌, List, ◌++◌, length, Some};
 ghost use Rattle.bus_machine.specs.BusMachine.{LoadedProgram};
-ghost use Rattle.secure_memory.specs.MemorySights.{IsReady, sight_of};
+ghost use Rattle.off_chip.specs.Boundaries.{retired};
+ghost use Rattle.secure_memory.specs.MemorySights.{sight_of};
 ghost use Rattle.aegis_machine.specs.declared.turns.Turn.TheVariants.{Parked as StaysParked};
-ghost use Rattle.aegis_machine.specs.MachineParts.{IsRunning, LeadsTo, TakesIn, end_by};
+ghost use Rattle.aegis_machine.specs.MachineParts.{CarriesSums, IsRunning, LeadsTo, RetiresInTurn, TakesIn, end_by};
 ghost use Rattle.aegis_machine.specs.SecureSights.{bus_sight};
+ghost use Rattle.aegis_machine.specs.Watched.{IsWatched};
 
 use crate::ends::{End, has_fuel};
 use crate::held::Held;
@@ -65,14 +67,14 @@ pub(crate) fn run_on<O: OffChip, L: Lines, K: Sink>(
     fuel: u64,
     n: u32,
 ) -> Turn
-    requires ready { IsReady (sight_of L.lines O.trace O.room O.layout mem.old) }
+    requires ready { IsWatched (sight_of L.lines O.trace O.room O.layout mem.old) }
     requires running { (program : LoadedProgram) × (handed_out : List ℕ)
         × IsRunning (bus_sight (sight_of L.lines O.trace O.room O.layout)) (λ memory. O.room memory.lent.now)
         program fuel (K.limit out.old) handed_out held.old count.old
         (record { core = core.old; memory = mem.old; port = port.old }) }
     requires port { port.old.next ≤ length port.old.input.now }
     ensures does { (piece : List ℕ)
-        × TakesIn result (K.written out.old) (K.written out.new)
+        × TakesIn result (O.trace mem.new.lent.now) (K.written out.old) (K.written out.new)
         (K.faults out.old) (K.faults out.new) piece
         × ((program : LoadedProgram) (handed_out : List ℕ)
         → IsRunning (bus_sight (sight_of L.lines O.trace O.room O.layout)) (λ memory. O.room memory.lent.now)
@@ -82,8 +84,12 @@ pub(crate) fn run_on<O: OffChip, L: Lines, K: Sink>(
         program fuel result (K.limit out.new) (handed_out ++ piece) held.new count.new
         ((bus_sight (sight_of L.lines O.trace O.room O.layout)).veil mem.old)
         (record { core = core.new; memory = mem.new; port = port.new })) }
-    ensures ready { result ≡ StaysParked → IsReady (sight_of L.lines O.trace O.room O.layout mem.new) }
+    ensures sums { CarriesSums mem.old.log.key result (O.trace mem.new.lent.now) }
+    ensures key { mem.new.log.key ≡ mem.old.log.key }
+    ensures ready { result ≡ StaysParked → IsWatched (sight_of L.lines O.trace O.room O.layout mem.new) }
     ensures parked { result ≡ StaysParked → count.new ≡ count.old + n }
+    ensures over { RetiresInTurn result n (retired (O.trace mem.old.lent.now))
+        (retired (O.trace mem.new.lent.now)) }
     ensures port { port.new.next ≤ length port.new.input.now }
     ensures input { port.new.input ≡ port.old.input }
     ensures same { O.same_memory mem.old.lent.now mem.new.lent.now }

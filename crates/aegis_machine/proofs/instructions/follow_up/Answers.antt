@@ -30,3 +30,27 @@ returns-in-Private-clause-does g c = (
       subst P (sym c.in-Private.is) (follows-private g.M.Guarded.sight g.M.Guarded.Caused c.in-Private.on c.args.held.now c.args.mem.now c.set_private.new.self c.set_private.ensures.sets)),
   hands-none (g.K.Sink.written c.args.out.now) (g.K.Sink.faults c.args.out.now) (g.K.Sink.limit c.args.out.now),
 )
+
+pub returns-in-Check-clause-does : goal.returns-in-Check-clause-does
+returns-in-Check-clause-does g c =
+    let does = c.settle.ensures.does in
+    let P : StepEnd → Type 0 = λ e. Follows g.M.Guarded.sight g.M.Guarded.Caused e c.settle.result c.args.held.now c.settle.new.held does.0 c.args.mem.now c.settle.new.mem in
+    (does.0, subst P (sym c.in-Check.is) does.1, does.2)
+
+pub returns-in-Exit-clause-does : goal.returns-in-Exit-clause-does
+returns-in-Exit-clause-does g c =
+    let does = c.settle-in-Exit.ensures.does in
+    let P : StepEnd → Type 0 = λ e. Follows g.M.Guarded.sight g.M.Guarded.Caused e c.settle-in-Exit.result c.args.held.now c.settle-in-Exit.new.held does.0 c.args.mem.now c.settle-in-Exit.new.mem in
+    (does.0, subst P (sym c.in-Exit.is) does.1, does.2)
+
+pub returns-in-Index-clause-does : goal.returns-in-Index-clause-does
+returns-in-Index-clause-does g c =
+    let does = c.settle-in-Index.ensures.does in
+    let P : StepEnd → Type 0 = λ e. Follows g.M.Guarded.sight g.M.Guarded.Caused e c.settle-in-Index.result c.args.held.now c.settle-in-Index.new.held does.0 c.args.mem.now c.settle-in-Index.new.mem in
+    (does.0, subst P (sym c.in-Index.is) does.1, does.2)
+
+pub returns-in-Divide-clause-does : goal.returns-in-Divide-clause-does
+returns-in-Divide-clause-does g c =
+    let does = c.settle-in-Divide.ensures.does in
+    let P : StepEnd → Type 0 = λ e. Follows g.M.Guarded.sight g.M.Guarded.Caused e c.settle-in-Divide.result c.args.held.now c.settle-in-Divide.new.held does.0 c.args.mem.now c.settle-in-Divide.new.mem in
+    (does.0, subst P (sym c.in-Divide.is) does.1, does.2)

@@ -1,11 +1,14 @@
-use Rattle.std.proofs.Common.{◌≡◌, ◌+◌, ◌*◌, ◌++◌, ◌∙◌, [], arith, length, refl, subst, sym, ℕ, List, Option}
+use Rattle.std.proofs.Common.{◌++◌, ◌∙◌, [], arith, length, refl, subst, sym, ℕ, List, Option}
+use Rattle.std.specs.Prelude.{IfSome}
+use Rattle.aegis_num.specs.declared.Key.{Key}
 use Rattle.regions.specs.declared.Layout.{Layout}
 use Rattle.off_chip.specs.BusCalls.{TellsOnly}
 use Rattle.off_chip.specs.declared.Event.{Event}
 use Rattle.secure_memory.specs.PrivatePads.{hidden_payload}
-use Rattle.aegis_machine.specs.MachineParts.{FitsMachine, RunIsOver, TakesRest, program_of}
+use Rattle.aegis_machine.specs.declared.turns.Turn.TheVariants.{Over}
+use Rattle.aegis_machine.specs.MachineParts.{CarriesSums, FitsMachine, RunIsOver, TakesRest, program_of}
 use Rattle.aegis_machine.proofs.RunLemmas.{appends-both}
-use Rattle.aegis_machine.proofs.TurnLemmas.{appends-nothing, count-few, takes-more}
+use Rattle.aegis_machine.proofs.TurnLemmas.{appends-nothing, takes-more}
 use Rattle.aegis_machine.proofs.machine.run.Goals as goal
 
 pub turns-init : goal.turns-init
@@ -19,6 +22,7 @@ turns-init g c =
         takes = c.requires.takes;
         fuel_is = c.new-machine.ensures.fuel;
       };
+      key = c.new-machine.ensures.key;
       steady = refl;
       count = omega (arith, c.new-machine.ensures.retired);
       total = refl;
@@ -42,7 +46,7 @@ returns-in-Over-clause-does g c =
     let P : ℕ → Type 0 = λ fuel. TakesRest (g.K.Sink.limit c.turns.out) fuel (length far.piece) in
     let Q : ℕ → Type 0 = λ fuel. RunIsOver (hidden_payload c.args.store.tree.veil) (program_of c.args.image.now c.args.input.now) fuel (far.piece ++ does.0) c.in-Over.end (g.O.OffChip.trace c.turn.new.bus) in (
       far.piece ++ does.0,
-      takes-more c.in-Over.end (g.K.Sink.written c.args.out.now) (g.K.Sink.written c.turns.out) (g.K.Sink.written c.turn.new.out) (g.K.Sink.faults c.args.out.now) (g.K.Sink.faults c.turns.out)
+      takes-more c.in-Over.end (g.O.OffChip.trace c.turn.new.bus) (g.K.Sink.written c.args.out.now) (g.K.Sink.written c.turns.out) (g.K.Sink.written c.turn.new.out) (g.K.Sink.faults c.args.out.now) (g.K.Sink.faults c.turns.out)
           (g.K.Sink.faults c.turn.new.out) far.piece does.0 far.taken c.turns.invariant.steady does.1,
       subst Q far.fuel_is (does.2 (hidden_payload c.args.store.tree.veil) far.piece far.fits (subst P (sym far.fuel_is) far.takes)),
     )
@@ -66,9 +70,14 @@ turns-preserved g c =
         takes = subst Q far.fuel_is ends.1;
         fuel_is = ends.2 ∙ far.fuel_is;
       };
+      key = c.in-Parked.ensures.key refl ∙ c.turns.invariant.key;
       steady = does.1.1 ∙ c.turns.invariant.steady;
       count = let e = c.in-Parked.ensures.parked refl in omega (arith, e, c.turns.invariant.count);
       total = c.turn.ensures.total ∙ c.turns.invariant.total;
       told = subst T (g.met.O.OffChip.same_layout _ _ c.turn.ensures.same) c.turns.invariant.told;
       same = g.met.O.OffChip.transitive _ _ _ c.turns.invariant.same c.turn.ensures.same;
     }
+
+pub returns-in-Over-clause-sums : goal.returns-in-Over-clause-sums
+returns-in-Over-clause-sums g c =
+    let P : Option Key → Type 0 = λ o. IfSome o (λ key. CarriesSums key (Over c.in-Over.end) (g.O.OffChip.trace c.turn.new.bus)) in subst P c.turns.invariant.key c.in-Over.ensures.sums

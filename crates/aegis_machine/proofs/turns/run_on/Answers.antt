@@ -1,6 +1,6 @@
-use Rattle.std.proofs.Common.{◌≡◌, ◌∙◌, ◌++◌, ◌+◌, arith, refl, subst, sym, ℕ, List, length}
-use Rattle.off_chip.specs.declared.Event.{Event}
-use Rattle.bus_machine.specs.BusMachine.{LoadedProgram, Veil}
+use Rattle.std.proofs.Common.{◌≡◌, ◌+◌, ◌∙◌, ◌++◌, arith, refl, subst, sym, ℕ, length}
+use Rattle.off_chip.specs.Boundaries.{retired}
+use Rattle.bus_machine.specs.BusMachine.{Veil}
 use Rattle.aegis_machine.specs.declared.ends.End.TheVariants.{FuelOut}
 use Rattle.aegis_machine.specs.declared.instructions.Done.{Done}
 use Rattle.aegis_machine.specs.declared.instructions.Done.TheVariants.{Goes}
@@ -8,7 +8,8 @@ use Rattle.aegis_machine.specs.FuelTests.{HasFuel}
 use Rattle.aegis_machine.specs.InstructionsDone.{DoesSo, HandsOut}
 use Rattle.aegis_machine.specs.MachineParts.{RunIsOver}
 use Rattle.aegis_machine.proofs.RunLemmas.{count-less, fuel-out, goes-on, room-enough, since-more, since-over, since-start, since-takes, takes-enough}
-use Rattle.aegis_machine.proofs.SecureRuns.{accesses_on, caused_on, meets_on, room_on, sight_on}
+use Rattle.aegis_machine.proofs.SecureRuns.{accesses_on, carries-on, caused_on, meets_on, room_on, sight_on, tells_on}
+use Rattle.aegis_machine.proofs.TurnCounts.{over-retires}
 use Rattle.aegis_machine.proofs.turns.run_on.Goals as goal
 
 pub instructions-init : goal.instructions-init
@@ -22,6 +23,7 @@ instructions-init g c = record {
   same = g.met.O.OffChip.reflexive _;
   total = refl;
   same_reference = refl;
+  key = refl;
 }
 
 pub returns-then-not-has_fuel-clause-does : goal.returns-then-not-has_fuel-clause-does
@@ -79,13 +81,15 @@ returns-in-Some-clause-does g c =
           (accesses_on g.L.Lines.lines g.O.OffChip.trace g.O.OffChip.room g.O.OffChip.layout g.O.OffChip.same_memory)
           (meets_on g.L.Lines.lines g.O.OffChip.trace g.O.OffChip.room g.O.OffChip.layout g.O.OffChip.same_memory)
           (caused_on g.L.Lines.lines g.O.OffChip.trace g.O.OffChip.room g.O.OffChip.layout g.O.OffChip.same_memory)
+          (tells_on g.L.Lines.lines g.O.OffChip.trace g.O.OffChip.room g.O.OffChip.layout g.O.OffChip.same_memory)
           (room_on g.L.Lines.lines g.O.OffChip.trace g.O.OffChip.room g.O.OffChip.layout g.O.OffChip.same_memory) c.args.fuel _ _ _ _ _ _ _ c.instructions.count _ _ since has c.instruction-done.new.held does.0
           (record { core = c.instruction-done.new.core; memory = c.instruction-done.new.mem; port = c.instruction-done.new.port }) _ (g.K.Sink.limit c.instruction-done.new.out)
-          (g.K.Sink.faults c.instructions.out) _ c.instruction-done.result c.in-Some.end _ (sym c.end_after.ensures ∙ c.in-Some.is) c.instructions.invariant.steady does.2,
+          (g.K.Sink.faults c.instructions.out) _ c.instruction-done.result c.in-Some.end _ (sym c.end_after.ensures ∙ c.in-Some.is) c.instructions.invariant.steady does.1 does.2,
       since-over (sight_on g.L.Lines.lines g.O.OffChip.trace g.O.OffChip.room g.O.OffChip.layout g.O.OffChip.same_memory)
           (accesses_on g.L.Lines.lines g.O.OffChip.trace g.O.OffChip.room g.O.OffChip.layout g.O.OffChip.same_memory)
           (meets_on g.L.Lines.lines g.O.OffChip.trace g.O.OffChip.room g.O.OffChip.layout g.O.OffChip.same_memory)
           (caused_on g.L.Lines.lines g.O.OffChip.trace g.O.OffChip.room g.O.OffChip.layout g.O.OffChip.same_memory)
+          (tells_on g.L.Lines.lines g.O.OffChip.trace g.O.OffChip.room g.O.OffChip.layout g.O.OffChip.same_memory)
           (room_on g.L.Lines.lines g.O.OffChip.trace g.O.OffChip.room g.O.OffChip.layout g.O.OffChip.same_memory) c.args.fuel _ _ _ _ _ _ _ c.instructions.count _ _ since has c.instruction-done.new.held does.0
           (record { core = c.instruction-done.new.core; memory = c.instruction-done.new.mem; port = c.instruction-done.new.port }) (g.K.Sink.written c.instruction-done.new.out) (g.K.Sink.limit c.instruction-done.new.out)
           (g.K.Sink.faults c.instructions.out) (g.K.Sink.faults c.instruction-done.new.out) c.instruction-done.result c.in-Some.end (sym c.end_after.ensures ∙ c.in-Some.is) does.1,
@@ -121,6 +125,7 @@ instructions-preserved g c =
           (accesses_on g.L.Lines.lines g.O.OffChip.trace g.O.OffChip.room g.O.OffChip.layout g.O.OffChip.same_memory)
           (meets_on g.L.Lines.lines g.O.OffChip.trace g.O.OffChip.room g.O.OffChip.layout g.O.OffChip.same_memory)
           (caused_on g.L.Lines.lines g.O.OffChip.trace g.O.OffChip.room g.O.OffChip.layout g.O.OffChip.same_memory)
+          (tells_on g.L.Lines.lines g.O.OffChip.trace g.O.OffChip.room g.O.OffChip.layout g.O.OffChip.same_memory)
           (room_on g.L.Lines.lines g.O.OffChip.trace g.O.OffChip.room g.O.OffChip.layout g.O.OffChip.same_memory) c.args.fuel _ _ _ _ _ _ _ c.instructions.count _ _ since has c.instruction-done.new.held does.0
           (record { core = c.instruction-done.new.core; memory = c.instruction-done.new.mem; port = c.instruction-done.new.port }) (g.K.Sink.written c.instruction-done.new.out) (g.K.Sink.limit c.instruction-done.new.out)
           (g.K.Sink.faults c.instructions.out) (g.K.Sink.faults c.instruction-done.new.out) (subst D goes does.1) hands c.instruction-done.ensures.kept.2;
@@ -132,6 +137,7 @@ instructions-preserved g c =
       same = g.met.O.OffChip.transitive _ _ _ c.instructions.invariant.same c.instruction-done.ensures.kept.1;
       total = c.instruction-done.ensures.kept.2 ∙ c.instructions.invariant.total;
       same_reference = c.instruction-done.ensures.kept.0 ∙ c.instructions.invariant.same_reference;
+      key = c.instruction-done.ensures.kept.3 ∙ c.instructions.invariant.key;
     }
 
 pub returns-clause-does : goal.returns-clause-does
@@ -141,3 +147,45 @@ returns-clause-does g c =
 
 pub returns-in-Some-clause-total : goal.returns-in-Some-clause-total
 returns-in-Some-clause-total g c = c.instruction-done.ensures.kept.2 ∙ c.instructions.invariant.total
+
+pub returns-in-Some-clause-key : goal.returns-in-Some-clause-key
+returns-in-Some-clause-key g c = c.instruction-done.ensures.kept.3 ∙ c.instructions.invariant.key
+
+pub returns-in-Some-clause-sums : goal.returns-in-Some-clause-sums
+returns-in-Some-clause-sums g c =
+    let does = c.instruction-done.ensures.does in
+    carries-on g.L.Lines.lines g.O.OffChip.trace g.O.OffChip.room g.O.OffChip.layout g.O.OffChip.same_memory _ c.instruction-done.result c.in-Some.end c.instructions.count c.instructions.held
+    c.instruction-done.new.held does.0 (record { core = c.instructions.core; memory = c.instructions.mem; port = c.instructions.port })
+    (record { core = c.instruction-done.new.core; memory = c.instruction-done.new.mem; port = c.instruction-done.new.port })
+    (c.instruction-done.ensures.kept.3 ∙ c.instructions.invariant.key) (sym c.end_after.ensures ∙ c.in-Some.is) does.1
+
+pub returns-then-not-has_fuel-clause-over : goal.returns-then-not-has_fuel-clause-over
+returns-then-not-has_fuel-clause-over g c =
+    let running = c.requires.running in
+    let so_far = c.instructions.invariant.since.runs running.0 running.1 running.2 in
+    let far : retired (g.O.OffChip.trace c.instructions.mem.lent.now) ≡ retired (g.O.OffChip.trace c.args.mem.now.lent.now) + c.instructions.counter =
+    omega (arith, running.2.counted, so_far.0.counted, c.instructions.invariant.parked) in
+    (omega (arith, far), omega (arith, far, c.instructions-test.true))
+
+pub returns-in-Some-clause-over : goal.returns-in-Some-clause-over
+returns-in-Some-clause-over g c =
+    let running = c.requires.running in
+    let so_far = c.instructions.invariant.since.runs running.0 running.1 running.2 in
+    let far : retired (g.O.OffChip.trace c.instructions.mem.lent.now) ≡ retired (g.O.OffChip.trace c.args.mem.now.lent.now) + c.instructions.counter =
+    omega (arith, running.2.counted, so_far.0.counted, c.instructions.invariant.parked) in
+    let does = c.instruction-done.ensures.does in
+    over-retires (sight_on g.L.Lines.lines g.O.OffChip.trace g.O.OffChip.room g.O.OffChip.layout g.O.OffChip.same_memory)
+    (accesses_on g.L.Lines.lines g.O.OffChip.trace g.O.OffChip.room g.O.OffChip.layout g.O.OffChip.same_memory)
+    (meets_on g.L.Lines.lines g.O.OffChip.trace g.O.OffChip.room g.O.OffChip.layout g.O.OffChip.same_memory)
+    (caused_on g.L.Lines.lines g.O.OffChip.trace g.O.OffChip.room g.O.OffChip.layout g.O.OffChip.same_memory) c.instructions.held c.instruction-done.new.held does.0
+    (record { core = c.instructions.core; memory = c.instructions.mem; port = c.instructions.port })
+    (record { core = c.instruction-done.new.core; memory = c.instruction-done.new.mem; port = c.instruction-done.new.port }) so_far.0.stands.tied.secure c.args.n _ _ c.instructions.count far
+    c.instructions-test.true c.instruction-done.result c.in-Some.end (sym c.end_after.ensures ∙ c.in-Some.is) does.1
+
+pub returns-clause-over : goal.returns-clause-over
+returns-clause-over g c =
+    let running = c.requires.running in
+    let so_far = c.instructions.invariant.since.runs running.0 running.1 running.2 in
+    let far : retired (g.O.OffChip.trace c.instructions.mem.lent.now) ≡ retired (g.O.OffChip.trace c.args.mem.now.lent.now) + c.instructions.counter =
+    omega (arith, running.2.counted, so_far.0.counted, c.instructions.invariant.parked) in
+    omega (arith, far, c.instructions-test.false, c.instructions.auto.counter-end)

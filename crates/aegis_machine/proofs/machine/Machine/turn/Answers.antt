@@ -1,9 +1,11 @@
-use Rattle.std.proofs.Common.{◌≡◌, ◌+◌, ◌++◌, ◌∙◌, [], arith, length, subst, sym, ℕ, List, Option}
+use Rattle.std.proofs.Common.{◌++◌, ◌∙◌, [], arith, length, subst, sym, ℕ, List, Option}
 use Rattle.std.proofs.lemmas.List.{append-nil}
 use Rattle.regions.specs.declared.Layout.{Layout}
+use Rattle.off_chip.specs.Boundaries.{retired}
 use Rattle.off_chip.specs.BusCalls.{TellsOnly}
-use Rattle.aegis_machine.specs.MachineParts.{EndsTurn, RunIsOver, TakesRest, program_of}
-use Rattle.aegis_machine.proofs.TurnLemmas.{stands-same, takes-nothing}
+use Rattle.aegis_machine.specs.MachineParts.{EndsTurn, RetiresInTurn, RunIsOver, TakesRest, program_of}
+use Rattle.aegis_machine.proofs.TurnLemmas.{carries-nothing, carries-some, stands-same, takes-nothing}
+use Rattle.aegis_machine.proofs.TurnCounts.{none-retires}
 use Rattle.aegis_machine.proofs.machine.Machine.turn.Goals as goal
 
 pub ready_parts-requires-clause-fits : goal.ready_parts-requires-clause-fits
@@ -57,7 +59,7 @@ returns-in-Ok-clause-total g c = c.turn_with.ensures.total ∙ c.ready_parts.ens
 pub returns-in-Err-clause-does : goal.returns-in-Err-clause-does
 returns-in-Err-clause-does g c = (
   [],
-  takes-nothing c.in-Err.end (g.K.Sink.written c.args.out.now) (g.K.Sink.faults c.args.out.now) c.in-Err.ensures.no_sink,
+  takes-nothing c.in-Err.end (g.O.OffChip.trace c.ready_parts.new.bus) (g.K.Sink.written c.args.out.now) (g.K.Sink.faults c.args.out.now) c.in-Err.ensures.ends,
   λ veil handed_out fits takes.
       let P : List ℕ → Type 0 = λ bytes. RunIsOver veil (program_of c.args.image.now c.args.input.now) c.args.self.now.fuel bytes c.in-Err.end (g.O.OffChip.trace c.ready_parts.new.bus) in
       subst P (sym (append-nil handed_out)) (c.in-Err.ensures.over c.args.input.now veil handed_out fits),
@@ -65,3 +67,19 @@ returns-in-Err-clause-does g c = (
 
 pub returns-in-Ok-clause-parked : goal.returns-in-Ok-clause-parked
 returns-in-Ok-clause-parked g c parked = let e = c.turn_with.ensures.parked parked in omega (arith, e, c.ready_parts.ensures.retired)
+
+pub returns-in-Ok-clause-sums : goal.returns-in-Ok-clause-sums
+returns-in-Ok-clause-sums g c = carries-some _ c.in-Ok.parts.log.key c.turn_with.result (g.O.OffChip.trace c.turn_with.new.bus) c.in-Ok.ensures.key c.turn_with.ensures.sums
+
+pub returns-in-Ok-clause-key : goal.returns-in-Ok-clause-key
+returns-in-Ok-clause-key g c parked = c.turn_with.ensures.key ∙ sym c.in-Ok.ensures.key
+
+pub returns-in-Err-clause-sums : goal.returns-in-Err-clause-sums
+returns-in-Err-clause-sums g c = carries-nothing _ c.in-Err.end (g.O.OffChip.trace c.ready_parts.new.bus) c.in-Err.ensures.ends
+
+pub returns-in-Ok-clause-over : goal.returns-in-Ok-clause-over
+returns-in-Ok-clause-over g c =
+    let P : ℕ → Type 0 = λ before. RetiresInTurn c.turn_with.result c.args.n before (retired (g.O.OffChip.trace c.turn_with.new.bus)) in subst P c.ready_parts.ensures.none c.turn_with.ensures.over
+
+pub returns-in-Err-clause-over : goal.returns-in-Err-clause-over
+returns-in-Err-clause-over g c = none-retires c.in-Err.end c.args.n _ _ c.in-Err.ensures.ends c.ready_parts.ensures.none c.requires.some
