@@ -1,0 +1,2 @@
+mod DigitTexts
+mod Examples

@@ -1,0 +1,1 @@
+int main(void){release(72);release(105);return 0;}
